@@ -1,0 +1,4 @@
+# make test: the whole gate.
+.PHONY: test
+test:
+	bash .ci/run

@@ -1,0 +1,4 @@
+pub mod Cut
+pub mod Put
+pub mod Tests
+pub mod Quoted
