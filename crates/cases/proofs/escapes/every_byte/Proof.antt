@@ -1,0 +1,47 @@
+-- `cases::escapes::every_byte` is safe and ends.
+use Prim.Native.Nat.{_≤_, _-_}
+use native.Mathlib.Omega.{arith}
+use borrow.Author.Needs.{needs}
+use Rattle.cases.proofs.escapes.every_byte.Statement.{statement}
+use Rattle.cases.proofs.escapes.every_byte.Tie as tie
+
+abbrev Inv-loop : tie.InvT-loop
+Inv-loop b₀ b = b ≤ 256
+
+abbrev μ-loop : tie.MeasureT-loop
+μ-loop b₀ b = 256 - b
+
+loop-holds : tie.Need-loop-holds Inv-loop μ-loop
+loop-holds c = omega arith
+
+cast-byte : tie.Need-cast-byte Inv-loop μ-loop
+cast-byte c = omega arith
+
+byte-requires : tie.Need-byte-requires Inv-loop μ-loop
+byte-requires c κs = search needs
+
+add-b : tie.Need-add-b Inv-loop μ-loop
+add-b c = omega arith
+
+loop-less : tie.Need-loop-less Inv-loop μ-loop
+loop-less c = omega arith
+
+loop-again : tie.Need-loop-again Inv-loop μ-loop
+loop-again c = omega arith
+
+returns : tie.Need-returns Inv-loop μ-loop
+returns c = search needs
+
+pub every-byte-spec : {M : Type 1} → statement M
+every-byte-spec =
+    tie.close
+    (tie.spec
+    Inv-loop
+    μ-loop
+    loop-holds
+    cast-byte
+    byte-requires
+    add-b
+    loop-less
+    loop-again
+    returns)
