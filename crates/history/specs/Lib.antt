@@ -1,0 +1,6 @@
+pub mod Calls
+pub mod Past
+pub mod Demand1
+pub mod Demand2
+pub mod Readers
+pub mod Cases
