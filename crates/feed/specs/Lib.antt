@@ -1,0 +1,4 @@
+pub mod Feed
+pub mod Printing
+pub mod Longest
+pub mod Cases
