@@ -1,0 +1,329 @@
+//! The replay: a script of calls in, one line of answer for each out.
+
+use crate::board::{Board, BOARD, FIRST_CHANNEL, SLOTS};
+use crate::log::{to_console, Log, Misfit};
+use crate::message::{hex_digit, read_line, BLOCK};
+use crate::record::BULK;
+use std::io::{self, BufRead, Write};
+
+/// Most bytes of a script's line, its newline aside.
+pub const LINE: usize = 40_000;
+/// Most readers at once.
+pub const READERS: usize = 16;
+/// Lent buffers are filled with this before each call.
+const LENT: u8 = 165;
+
+#[derive(Default)]
+pub struct Machine {
+    pub log: Option<Log>,
+    pub readers: Vec<u64>,
+    pub board: Option<Board>,
+}
+
+/// Answers a whole script.
+pub fn replay(input: &mut dyn BufRead, output: &mut dyn Write) -> io::Result<()> {
+    let mut machine = Machine::default();
+    let mut line = Vec::new();
+    while take_line(input, &mut line)? {
+        writeln!(output, "{}", machine.answer(&line))?;
+    }
+    output.flush()
+}
+
+/// Takes one line without its newline; false at the end of the input.
+/// Of a line that is too long, only enough is kept to know it.
+fn take_line(input: &mut dyn BufRead, line: &mut Vec<u8>) -> io::Result<bool> {
+    line.clear();
+    let mut any = false;
+    loop {
+        let piece = input.fill_buf()?;
+        if piece.is_empty() {
+            return Ok(any);
+        }
+        any = true;
+        let end = piece.iter().position(|&b| b == b'\n');
+        let bytes = &piece[..end.unwrap_or(piece.len())];
+        let room = (LINE + 1).saturating_sub(line.len());
+        line.extend(&bytes[..bytes.len().min(room)]);
+        let used = bytes.len() + usize::from(end.is_some());
+        input.consume(used);
+        if end.is_some() {
+            return Ok(true);
+        }
+    }
+}
+
+impl Machine {
+    /// The answer to one line.
+    pub fn answer(&mut self, line: &[u8]) -> String {
+        let text = match std::str::from_utf8(line) {
+            Ok(text) if line.len() <= LINE => text,
+            _ => return "?".into(),
+        };
+        let words: Vec<&str> = text.split(' ').collect();
+        self.call(&words).unwrap_or_else(|| "?".into())
+    }
+
+    /// None where the line is no call. Every word is read before anything is done.
+    fn call(&mut self, words: &[&str]) -> Option<String> {
+        match *words {
+            ["log", capacity, fill] => {
+                let capacity = num_to(capacity, 70_000)? as usize;
+                let fill = num_to(fill, 255)? as u8;
+                self.log = Some(Log::fresh(vec![fill; capacity]));
+                self.readers.clear();
+                Some("log".into())
+            }
+            ["number", name, value] => {
+                let value = num(value)?;
+                let log = self.log.as_mut()?;
+                log.set_number(name, value).then(|| "set".into())
+            }
+            ["poke", place, bytes] => {
+                let (place, bytes) = (num(place)?, unhex(bytes)?);
+                self.log.as_mut()?.poke(place, &bytes);
+                Some("poked".into())
+            }
+            ["numbers"] => {
+                let n = self.log.as_ref()?.numbers();
+                Some(format!(
+                    "{} {} {} {} {} {} {} {}",
+                    n.start, n.used, n.first, n.next, n.clear, n.position, n.offset, n.console
+                ))
+            }
+            ["peek", place, length] => {
+                let (place, length) = (num(place)?, num(length)?);
+                Some(hex(self.log.as_ref()?.peek(place, length)))
+            }
+            ["check"] => Some(match self.log.as_mut()?.check() {
+                Ok(()) => "fine".into(),
+                Err(Misfit::Numbers) => "numbers".into(),
+                Err(Misfit::Heading(count)) => format!("heading {count}"),
+            }),
+            ["outside", time, handed] => {
+                let (time, handed) = (num(time)?, unhex(handed)?);
+                let log = self.log.as_mut()?;
+                write(log, |log| log.outside(time, &handed))
+            }
+            ["box", facility, level, time, text, dictionary] => {
+                let (facility, level) = (int(facility)?, int(level)?);
+                let time = num(time)?;
+                let (text, dictionary) = (unhex(text)?, unhex(dictionary)?);
+                let log = self.log.as_mut()?;
+                write(log, |log| {
+                    log.from_box(facility, level, time, &text, &dictionary)
+                })
+            }
+            ["reader"] => {
+                let first = self.log.as_ref()?.numbers().first;
+                if self.readers.len() == READERS {
+                    return None;
+                }
+                self.readers.push(first);
+                Some(format!("reader {}", self.readers.len() - 1))
+            }
+            ["at", reader, value] => {
+                let value = num(value)?;
+                *self.reader(reader)? = value;
+                Some("set".into())
+            }
+            ["where", reader] => Some(self.reader(reader)?.to_string()),
+            ["read", reader, length] => {
+                let length = num_to(length, 5_000)? as usize;
+                let mut number = *self.reader(reader)?;
+                let log = self.log.as_mut()?;
+                let before = log.bytes().to_vec();
+                let mut lent = vec![LENT; length];
+                let (answer, lost) = log.read(&mut number, &mut lent);
+                let count = counted(answer);
+                let changed = !stayed(&lent, count) || log.bytes() != before;
+                *self.reader(reader)? = number;
+                let bytes = hex(&lent[..count]);
+                Some(format!("{answer} {lost} {bytes}{}", mark(changed)))
+            }
+            ["seek", reader, offset, whence] => {
+                let (offset, whence) = (wide_int(offset)?, int(whence)?);
+                let mut number = *self.reader(reader)?;
+                let answer = self.log.as_mut()?.seek(&mut number, offset, whence);
+                *self.reader(reader)? = number;
+                Some(answer.to_string())
+            }
+            ["command", kind, len, privilege, restriction, lent] => {
+                let (kind, len) = (int(kind)?, int(len)?);
+                let privilege = num_to(privilege, 1)? == 1;
+                let restriction = num_to(restriction, 1)? == 1;
+                let mut lent = vec![LENT; num_to(lent, 300_000)? as usize];
+                let log = self.log.as_mut()?;
+                let before = log.bytes().to_vec();
+                let answer = log.command(kind, len, privilege, restriction, &mut lent);
+                let count = match kind {
+                    2..=4 => counted(answer),
+                    _ => 0,
+                };
+                let changed = !stayed(&lent, count) || log.bytes() != before;
+                let bytes = hex(&lent[..count]);
+                Some(format!("{answer} {bytes}{}", mark(changed)))
+            }
+            ["console", level, setting] => {
+                let yes = to_console(int(level)?, int(setting)?);
+                Some(if yes { "yes" } else { "no" }.into())
+            }
+            ["board", fill] => {
+                let fill = num_to(fill, 255)? as u8;
+                self.board = Some(Board::fresh(vec![fill; BOARD]));
+                Some("board".into())
+            }
+            ["deliver", message] => {
+                let message = unhex(message)?;
+                let board = self.board.as_mut()?;
+                let before = board.clone();
+                let answer = board.deliver(&message);
+                Some(format!("{answer}{}", mark(!board_stayed(&before, board))))
+            }
+            ["slot", channel] => {
+                let channel = num_to(channel, FIRST_CHANNEL + SLOTS as u64 - 1)?;
+                let index = channel.checked_sub(FIRST_CHANNEL)? as usize;
+                let board = self.board.as_ref()?;
+                let slot = board.slots[index];
+                Some(match slot.number {
+                    None => format!("nothing {}", slot.length),
+                    Some(number) => {
+                        format!("{number} {} {}", slot.length, hex(board.shown(index)))
+                    }
+                })
+            }
+            ["line", message] => Some(line(&unhex(message)?)),
+            _ => None,
+        }
+    }
+
+    fn reader(&mut self, word: &str) -> Option<&mut u64> {
+        let index = usize::try_from(num(word)?).ok()?;
+        self.readers.get_mut(index)
+    }
+}
+
+/// A write, and whether bytes beside its record stayed.
+fn write(log: &mut Log, call: impl FnOnce(&mut Log) -> (i64, u64)) -> Option<String> {
+    let before = log.bytes().to_vec();
+    let old = *log.numbers();
+    let (answer, dropped) = call(log);
+    let mut wanted = before;
+    if answer >= 0 {
+        // The record's own bytes are the write's to change.
+        let cost = log.records()?.back()?.cost();
+        let capacity = wanted.len();
+        for step in 0..cost {
+            let place = (old.start as usize + old.used as usize + step) % capacity;
+            wanted[place] = log.bytes()[place];
+        }
+    }
+    let changed = log.bytes() != wanted;
+    Some(format!("{answer} {dropped}{}", mark(changed)))
+}
+
+/// Whether only slots that took a message changed, and those only at their front.
+fn board_stayed(before: &Board, after: &Board) -> bool {
+    let mut wanted = before.buffer.clone();
+    for index in 0..SLOTS {
+        if before.slots[index] != after.slots[index] {
+            let shown = after.shown(index);
+            wanted[index * BULK..index * BULK + shown.len()].copy_from_slice(shown);
+        }
+    }
+    wanted == after.buffer
+}
+
+fn line(message: &[u8]) -> String {
+    let mut result = vec![LENT; BULK];
+    let mut block = vec![LENT; BLOCK];
+    let answer = read_line(message, &mut result, &mut block);
+    if answer != 0 {
+        let changed = !stayed(&result, 0) || !stayed(&block, 0);
+        return format!("{answer}{}", mark(changed));
+    }
+    let numbers: Vec<u64> = block
+        .chunks_exact(8)
+        .map(|place| u64::from_le_bytes(place.try_into().unwrap()))
+        .collect();
+    let [prefix, sequence, time, text, dictionary, flag] = numbers[..] else {
+        unreachable!("the block holds six numbers");
+    };
+    let (text, dictionary) = (text as usize, dictionary as usize);
+    let changed = !stayed(&result, text + dictionary);
+    format!(
+        "0 {prefix} {sequence} {time} {flag} {} {}{}",
+        hex(&result[..text]),
+        hex(&result[text..text + dictionary]),
+        mark(changed)
+    )
+}
+
+/// How many lent bytes an answer counts.
+fn counted(answer: i64) -> usize {
+    usize::try_from(answer).unwrap_or(0)
+}
+
+fn stayed(lent: &[u8], count: usize) -> bool {
+    lent[count..].iter().all(|&b| b == LENT)
+}
+
+fn mark(changed: bool) -> &'static str {
+    if changed {
+        " CHANGED"
+    } else {
+        ""
+    }
+}
+
+fn num(word: &str) -> Option<u64> {
+    let digits = !word.is_empty() && word.bytes().all(|b| b.is_ascii_digit());
+    if digits {
+        word.parse().ok()
+    } else {
+        None
+    }
+}
+
+fn num_to(word: &str, top: u64) -> Option<u64> {
+    num(word).filter(|&value| value <= top)
+}
+
+fn wide_int(word: &str) -> Option<i64> {
+    let digits = word.strip_prefix('-').unwrap_or(word);
+    let value = i128::from(num(digits)?);
+    let value = if word.starts_with('-') { -value } else { value };
+    i64::try_from(value).ok()
+}
+
+fn int(word: &str) -> Option<i32> {
+    i32::try_from(wide_int(word)?).ok()
+}
+
+/// Lower-case hex, or '-' for no bytes.
+pub fn hex(bytes: &[u8]) -> String {
+    if bytes.is_empty() {
+        return "-".into();
+    }
+    let digits = b"0123456789abcdef";
+    let mut out = String::with_capacity(2 * bytes.len());
+    for byte in bytes {
+        out.push(digits[usize::from(byte >> 4)] as char);
+        out.push(digits[usize::from(byte & 15)] as char);
+    }
+    out
+}
+
+pub fn unhex(word: &str) -> Option<Vec<u8>> {
+    if word == "-" {
+        return Some(Vec::new());
+    }
+    let digits = word.as_bytes();
+    if digits.is_empty() || digits.len() % 2 != 0 {
+        return None;
+    }
+    digits
+        .chunks_exact(2)
+        .map(|pair| Some(hex_digit(pair[0])? * 16 + hex_digit(pair[1])?))
+        .collect()
+}

@@ -1,0 +1,45 @@
+//! A second program for the event log: it answers replay scripts, and writes them.
+
+mod answer;
+mod board;
+mod log;
+mod message;
+mod random;
+mod record;
+mod script;
+#[cfg(test)]
+mod tests;
+
+use std::io::{self, BufWriter, ErrorKind, Write};
+use std::process::ExitCode;
+
+const USAGE: &str = "usage: compare answer
+       compare script SEED N [wide]";
+
+fn main() -> ExitCode {
+    let words: Vec<String> = std::env::args().skip(1).collect();
+    let words: Vec<&str> = words.iter().map(String::as_str).collect();
+    let mut output = BufWriter::new(io::stdout().lock());
+    let done = match words[..] {
+        ["answer"] => answer::replay(&mut io::stdin().lock(), &mut output),
+        ["script", seed, lines] => write_script(seed, lines, false, &mut output),
+        ["script", seed, lines, "wide"] => write_script(seed, lines, true, &mut output),
+        _ => Err(io::Error::new(ErrorKind::InvalidInput, USAGE)),
+    };
+    match done {
+        Ok(()) => ExitCode::SUCCESS,
+        // Whoever reads us may stop early.
+        Err(error) if error.kind() == ErrorKind::BrokenPipe => ExitCode::SUCCESS,
+        Err(error) => {
+            eprintln!("{error}");
+            ExitCode::FAILURE
+        }
+    }
+}
+
+fn write_script(seed: &str, lines: &str, wide: bool, output: &mut dyn Write) -> io::Result<()> {
+    let (Ok(seed), Ok(lines)) = (seed.parse(), lines.parse()) else {
+        return Err(io::Error::new(ErrorKind::InvalidInput, USAGE));
+    };
+    script::write_script(seed, lines, wide, output)
+}

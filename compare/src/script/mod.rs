@@ -1,0 +1,444 @@
+//! Writes scripts: random, but made to meet the places where answers may part.
+//!
+//! The script is played as it is written, so that lengths and places can be chosen to fit.
+
+mod calls;
+mod damage;
+mod messages;
+
+use crate::answer::{hex, Machine};
+use crate::log::{Log, Numbers};
+use crate::random::Random;
+use crate::record::Record;
+use std::io::{self, Write};
+
+/// Writes `lines` lines. With `wide` it also writes numbers whose range the script's
+/// description leaves open.
+pub fn write_script(seed: u64, lines: u64, wide: bool, output: &mut dyn Write) -> io::Result<()> {
+    let mut script = Script {
+        random: Random::new(seed),
+        machine: Machine::default(),
+        output,
+        failure: None,
+        left: lines,
+        wide,
+        over: false,
+        clock: 5_000_999,
+        style: Style::Mixed,
+        pool: Vec::new(),
+        main_channel: 16,
+    };
+    script.opening();
+    while script.left > 0 {
+        script.chapter();
+        if let Some(error) = script.failure.take() {
+            return Err(error);
+        }
+    }
+    script.output.flush()
+}
+
+/// How long the texts of a chapter are.
+#[derive(Clone, Copy)]
+enum Style {
+    Tiny,
+    Middle,
+    Long,
+    Mixed,
+}
+
+struct Script<'a> {
+    random: Random,
+    machine: Machine,
+    output: &'a mut dyn Write,
+    failure: Option<io::Error>,
+    left: u64,
+    wide: bool,
+    /// The chapter ends early.
+    over: bool,
+    clock: u64,
+    style: Style,
+    /// Records to deliver, and the channel that most of them have.
+    pool: Vec<Record>,
+    main_channel: u64,
+}
+
+impl Script<'_> {
+    /// Writes one line and plays it.
+    fn say(&mut self, line: impl AsRef<[u8]>) {
+        if self.left == 0 || self.failure.is_some() {
+            return;
+        }
+        self.left -= 1;
+        let line = line.as_ref();
+        self.machine.answer(line);
+        let written = self
+            .output
+            .write_all(line)
+            .and_then(|()| self.output.write_all(b"\n"));
+        if let Err(error) = written {
+            self.failure = Some(error);
+            self.left = 0;
+        }
+    }
+
+    fn log(&mut self) -> &mut Log {
+        self.machine
+            .log
+            .as_mut()
+            .expect("a script opens with a log")
+    }
+
+    fn numbers(&mut self) -> Numbers {
+        *self.log().numbers()
+    }
+
+    fn capacity(&mut self) -> u64 {
+        self.log().bytes().len() as u64
+    }
+
+    fn fine(&mut self) -> bool {
+        self.log().check().is_ok()
+    }
+
+    fn opening(&mut self) {
+        self.say("log 2048 165");
+        // Kept also where not even one line was wanted.
+        self.machine.answer(b"log 2048 165");
+        for _ in 0..3 {
+            self.say("reader");
+        }
+        self.fresh_board();
+        for _ in 0..40 {
+            self.step();
+        }
+    }
+
+    fn fill_byte(&mut self) -> u64 {
+        match self.random.below(3) {
+            0 => self.random.pick(&[0, 45, 61, 165, 255]),
+            _ => self.random.below(256),
+        }
+    }
+
+    /// A fresh log with its readers, and what befalls it.
+    fn chapter(&mut self) {
+        let capacity = match self.random.below(100) {
+            0..=24 => 1_024,
+            25..=34 => self.random.within(1_024, 1_100),
+            35..=64 => self.random.within(1_024, 4_096),
+            65..=79 => 65_536,
+            80..=81 => 65_535,
+            82..=87 => self.random.within(4_097, 65_535),
+            _ => self.random.pick(&[
+                0, 1, 23, 1_023, 1_023, 1_023, 65_537, 65_537, 65_537, 70_000,
+            ]),
+        };
+        let fill = self.fill_byte();
+        self.say(format!("log {capacity} {fill}"));
+        let readers = match self.random.below(20) {
+            0 => 17,
+            1 => 0,
+            _ => self.random.within(1, 5),
+        };
+        for _ in 0..readers {
+            self.say("reader");
+        }
+        if self.random.chance(35) {
+            self.fresh_board();
+        }
+        self.style = match self.random.below(4) {
+            0 => Style::Tiny,
+            1 => Style::Middle,
+            2 => Style::Long,
+            _ => Style::Mixed,
+        };
+        let usable = (1_024..=65_536).contains(&capacity);
+        let length = if usable {
+            self.random.within(80, 600)
+        } else {
+            self.random.within(8, 20)
+        };
+        if usable {
+            match self.random.below(10) {
+                0..=2 => self.forge(),
+                3..=6 if capacity > 8_192 => self.fill_up(),
+                7 if capacity <= 4_096 || self.random.chance(20) => self.fill_with_empty(),
+                _ => (),
+            }
+        }
+        self.over = false;
+        let end = self.left.saturating_sub(length);
+        let deliveries = self.random.chance(25);
+        while self.left > end && !self.over {
+            match deliveries && self.random.chance(90) {
+                true => self.delivery(),
+                false => self.step(),
+            }
+            // A log that takes no more writes soon makes room for another.
+            if self.numbers().next == u64::MAX && self.random.chance(8) {
+                break;
+            }
+        }
+        if deliveries {
+            self.all_slots();
+        }
+    }
+
+    fn step(&mut self) {
+        match self.random.below(1_000) {
+            0..=199 => self.outside(),
+            200..=309 => self.from_box(),
+            310..=459 => self.read(),
+            460..=519 => self.move_reader(),
+            520..=659 => self.command(),
+            660..=674 => self.console(),
+            675..=724 => self.look(),
+            725..=744 => self.overtake(),
+            745..=764 => self.cut_command(),
+            765..=799 => self.damage(),
+            800..=804 => self.top_numbers(),
+            805..=809 => self.forge(),
+            810..=811 => self.sweep_numbers(),
+            812..=813 => self.sweep_heading(),
+            814..=817 => self.sweep_calls(),
+            818..=822 => self.fresh_board(),
+            823..=826 => self.all_slots(),
+            827..=836 => self.odd_line(),
+            _ => self.delivery(),
+        }
+    }
+
+    /// Any call on the log.
+    fn log_call(&mut self) {
+        match self.random.below(8) {
+            0 => self.outside(),
+            1 => self.from_box(),
+            2 | 3 => self.read(),
+            4 => self.move_reader(),
+            5 | 6 => self.command(),
+            _ => self.look(),
+        }
+    }
+
+    fn length(&mut self) -> usize {
+        let style = match self.style {
+            Style::Mixed => {
+                self.random
+                    .pick(&[Style::Tiny, Style::Tiny, Style::Middle, Style::Long])
+            }
+            style => style,
+        };
+        let (low, high) = match style {
+            Style::Tiny => (0, 6),
+            Style::Middle => (0, 120),
+            _ => (500, 960),
+        };
+        self.random.within(low, high) as usize
+    }
+
+    /// Bytes of one of several kinds.
+    fn bytes(&mut self, length: usize) -> Vec<u8> {
+        let kind = self.random.below(10);
+        let same = self.random.below(256) as u8;
+        (0..length)
+            .map(|i| match kind {
+                0..=3 => b"GOAL home 1, corner 2; card "[i % 28],
+                4 | 5 => self.random.within(32, 126) as u8,
+                6 | 7 => self.random.below(256) as u8,
+                8 => self.random.pick(b"\\\n\x7f~\x1f \x00\xff=;,<>x0\t\r\x80"),
+                _ => same,
+            })
+            .collect()
+    }
+
+    /// A dictionary that keeps the rules, of at most `most` bytes.
+    fn dictionary(&mut self, most: usize) -> Vec<u8> {
+        let mut dictionary = Vec::new();
+        for _ in 0..self.random.pick(&[0u64, 0, 0, 1, 1, 2, 3, 8]) {
+            let mut entry = Vec::new();
+            if !dictionary.is_empty() {
+                entry.push(0);
+            }
+            let key = self.random.within(1, 4) as usize;
+            let plain = self.random.chance(70);
+            for _ in 0..key {
+                entry.push(match plain {
+                    true => self.random.within(97, 122) as u8,
+                    false => self.random.pick(b" \\\n\x7f\x01\xffx,;"),
+                });
+            }
+            entry.push(b'=');
+            let value = self.random.below(12) as usize;
+            entry.extend(self.bytes(value).iter().filter(|&&b| b != 0));
+            if dictionary.len() + entry.len() <= most {
+                dictionary.extend(entry);
+            }
+        }
+        dictionary
+    }
+
+    /// Exactly `length` bytes of dictionary that keep the rules; at least 2.
+    fn dictionary_of(&mut self, length: usize) -> Vec<u8> {
+        let mut dictionary = vec![b'v'; length];
+        dictionary[0] = b'k';
+        dictionary[1] = b'=';
+        if length > 5 && self.random.chance(50) {
+            let cut = self.random.within(2, length as u64 - 3) as usize;
+            dictionary[cut] = 0;
+            dictionary[cut + 2] = b'=';
+        }
+        dictionary
+    }
+
+    fn time(&mut self) -> u64 {
+        let back = self.random.below(100_000);
+        match self.random.below(20) {
+            0 => self.random.pick(&[0, 999, 1_000, 1_001, 1_999, 5_000_999]),
+            1 => self
+                .random
+                .pick(&[u64::MAX, u64::MAX - 1, u64::MAX - 615, u64::MAX - 616]),
+            2 => self.random.any(),
+            3 | 4 => self.clock.saturating_sub(back),
+            _ => {
+                self.clock += back;
+                self.clock
+            }
+        }
+    }
+
+    /// One of the number's neighbours, itself among them.
+    fn near(&mut self, number: u64) -> u64 {
+        match self.random.below(4) {
+            0 => number.saturating_sub(1),
+            1 => number.saturating_add(1),
+            2 => number,
+            _ => {
+                let step = self.random.below(5);
+                number.saturating_add(2).saturating_sub(step)
+            }
+        }
+    }
+
+    /// A line that is no call.
+    fn odd_line(&mut self) {
+        const LINES: &[&str] = &[
+            "",
+            " ",
+            "?",
+            "goal",
+            "LOG 1024 0",
+            "log",
+            "log 1024",
+            "log 1024 256",
+            "log 70001 0",
+            "log 1024 0 0",
+            "log -1 0",
+            "log x 0",
+            "number",
+            "number start",
+            "number goal 5",
+            "number start 18446744073709551616",
+            "number start -1",
+            "number start 1x",
+            "poke 0",
+            "poke 0 0",
+            "poke 0 0G",
+            "poke 0 FF",
+            "poke x 00",
+            "numbers 0",
+            "numbers ",
+            " numbers",
+            "peek 0",
+            "peek 0 -1",
+            "check fine",
+            "outside 0",
+            "outside 18446744073709551616 -",
+            "outside -1 -",
+            "outside 0 abc",
+            "outside 0  61",
+            "box 1 1 0 61",
+            "box 1 1 0 61 613",
+            "box x 1 0 61 -",
+            "reader 0",
+            "at 0",
+            "at 99 0",
+            "at 16 0",
+            "at 0 x",
+            "where",
+            "where 99",
+            "where -1",
+            "read 0",
+            "read 99 100",
+            "read 0 5001",
+            "read 0 -1",
+            "seek 0 0",
+            "seek 99 0 0",
+            "seek 0 x 0",
+            "command 2 5 1 0",
+            "command 2 5 2 0 5",
+            "command 2 5 1 2 5",
+            "command 2 5 -1 0 5",
+            "command 2 5 1 0 300001",
+            "command x 5 1 0 5",
+            "console 1",
+            "console x 1",
+            "board",
+            "board 256",
+            "board x",
+            "deliver",
+            "deliver ABCD",
+            "deliver 0",
+            "slot",
+            "slot 15",
+            "slot 24",
+            "slot x",
+            "line",
+            "line 0g",
+            "line - -",
+        ];
+        const WIDE: &[&str] = &[
+            "log 01024 0",
+            "at 0 +1",
+            "at 0 007",
+            "seek 0 9223372036854775807 0",
+            "seek 0 -9223372036854775808 0",
+            "seek 0 9223372036854775808 0",
+            "seek 0 -0 0",
+            "seek 0 0 2147483648",
+            "seek 0 0 -2147483649",
+            "command 2147483648 0 1 0 0",
+            "command -2147483649 0 1 0 0",
+            "command 3 2147483648 1 0 0",
+            "command 3 -2147483649 1 0 0",
+            "console -9223372036854775808 9223372036854775807",
+            "console 2147483648 2147483647",
+            "console -2147483649 0",
+            "box -1 0 0 - -",
+            "box 0 -1 0 - -",
+            "box 65536 0 0 - -",
+            "box 4294967296 0 0 - -",
+            "box 0 4294967296 0 - -",
+            "number console 4294967303",
+            "number console 18446744073709551615",
+            "number offset 4294967296",
+        ];
+        if self.wide && self.random.chance(60) {
+            let line = self.random.pick(WIDE);
+            self.say(line);
+        } else if self.random.chance(80) {
+            let line = self.random.pick(LINES);
+            self.say(line);
+        } else {
+            let length = self.random.below(30) as usize;
+            let mut line = vec![b'#'];
+            line.extend(self.bytes(length));
+            line.retain(|&b| b != b'\n');
+            self.say(line);
+        }
+    }
+
+    fn say_hex(&mut self, words: &str, bytes: &[u8]) {
+        self.say(format!("{words} {}", hex(bytes)));
+    }
+}

@@ -1,0 +1,102 @@
+//! The scripts that are written, and long runs of them.
+
+use crate::answer::{Machine, LINE};
+use crate::log::walk;
+use crate::script::write_script;
+use std::collections::BTreeSet;
+
+fn script(seed: u64, lines: u64, wide: bool) -> Vec<u8> {
+    let mut out = Vec::new();
+    write_script(seed, lines, wide, &mut out).unwrap();
+    out
+}
+
+#[test]
+fn as_many_lines_as_wanted() {
+    for lines in [0, 1, 5, 1_000] {
+        let script = script(7, lines, false);
+        let count = script.iter().filter(|&&b| b == b'\n').count();
+        assert_eq!(count as u64, lines);
+        assert!(lines == 0 || script.ends_with(b"\n"));
+        assert!(lines == 0 || script.starts_with(b"log "));
+    }
+    assert_eq!(script(3, 500, false), script(3, 500, false));
+    assert_ne!(script(3, 500, false), script(4, 500, false));
+    assert!(script(3, 900, false).starts_with(&script(3, 500, false)));
+}
+
+/// The queue agrees with the bytes after every call, and every kind of answer comes up.
+#[test]
+fn long_runs() {
+    let mut met = BTreeSet::new();
+    for seed in 0..6 {
+        let script = script(seed, 6_000, seed % 2 == 1);
+        let mut machine = Machine::default();
+        for line in script.split(|&b| b == b'\n') {
+            assert!(line.len() <= LINE);
+            let answer = machine.answer(line);
+            assert!(!answer.ends_with("CHANGED"), "{answer}");
+            if let Some(log) = &mut machine.log {
+                let found = walk(log.bytes(), log.numbers()).ok();
+                assert_eq!(found.as_ref(), log.records());
+            }
+            let word = line.split(|&b| b == b' ').next().unwrap();
+            let mut first = answer.split(' ').next().unwrap().to_string();
+            let known = match word {
+                b"outside" | b"box" | b"read" | b"command" | b"seek" => {
+                    if first.parse::<i64>().is_ok_and(|n| n > 0) {
+                        first = "+".into();
+                    }
+                    true
+                }
+                b"deliver" | b"line" | b"check" | b"console" => true,
+                _ => false,
+            };
+            if known {
+                met.insert(format!("{} {first}", String::from_utf8_lossy(word)));
+            }
+        }
+    }
+    let wanted = [
+        ("outside", "+ 0 -22 -75 -77"),
+        ("box", "+ 0 -22 -75 -77"),
+        ("read", "+ -11 -22 -32 -77"),
+        ("seek", "0 -22 -29 -77"),
+        ("command", "+ 0 -1 -11 -14 -22 -77"),
+        ("check", "fine heading numbers"),
+        ("console", "yes no"),
+        ("deliver", "0 2 3 4 5 6 7 8 9 10"),
+        ("line", "0 2 3 4 5 6 7 8"),
+    ];
+    for (word, answers) in wanted {
+        for answer in answers.split(' ') {
+            let case = format!("{word} {answer}");
+            assert!(met.contains(&case), "{case}");
+        }
+    }
+}
+
+/// Bytes of every kind make no trouble.
+#[test]
+fn any_bytes_at_all() {
+    let mut random = crate::random::Random::new(1);
+    let mut machine = Machine::default();
+    let mut good = script(11, 3_000, true);
+    for _ in 0..6_000 {
+        let at = random.below(good.len() as u64) as usize;
+        good[at] = match random.below(3) {
+            0 => random.below(256) as u8,
+            1 => random.pick(b" \n-0"),
+            _ => random.within(48, 57) as u8,
+        };
+    }
+    for line in good.split(|&b| b == b'\n') {
+        assert!(!machine.answer(line).is_empty());
+    }
+    for _ in 0..3_000 {
+        let line: Vec<u8> = (0..random.below(60))
+            .map(|_| random.below(256) as u8)
+            .collect();
+        assert_eq!(machine.answer(&line), "?");
+    }
+}
