@@ -1,9 +1,9 @@
 // A ring of seven bytes: three bytes put and read at every place of it, behind every number of used ones.
 use crate::say;
-use record::Place;
+use ring::Place;
 use slices::Placed;
 ghost use Prim.Native.Nat.{_<_, _≤_};
-ghost use Rattle.record.specs.Ring.{Within};
+ghost use Rattle.ring.specs.Ring.{Within};
 
 // The used bytes, one after the other.
 fn straight(buffer: &[u8], start: usize, used: usize)
@@ -11,7 +11,7 @@ fn straight(buffer: &[u8], start: usize, used: usize)
 {
     let mut i = 0;
     while i < used {
-        let one = [record::byte_at(buffer, Place(start), used, i)];
+        let one = [ring::byte_at(buffer, Place(start), used, i)];
         say::text(&one);
         i += 1;
     }
@@ -26,7 +26,7 @@ fn put(start: usize, used: usize)
     say::text(b" ");
     say::number(used as u64);
     say::text(b": ");
-    match record::ring_put(&mut buffer, Place(start), used, b"XYZ") {
+    match ring::ring_put(&mut buffer, Place(start), used, b"XYZ") {
         Placed::End(n) => {
             say::text(&buffer);
             if n <= 7 {

@@ -9,7 +9,7 @@ use Rattle.number.specs.Decimal.{decimal, value}
 use Rattle.record.specs.Dictionary.{isDictionary}
 use Rattle.record.specs.Record.{cost}
 use Rattle.record.specs.Heading.{headingOf, headingCost, headingFits}
-use Rattle.record.specs.Ring.{unrolled}
+use Rattle.ring.specs.Ring.{unrolled}
 use Rattle.record.specs.Forms.{kmsgEntries, kmsgHeader, kmsgLine, syslogForm, syslogForms}
 use Rattle.log.specs.View.{nextOf, recordAt}
 use Rattle.log.specs.Check.{numbersFit, recordFits, walked, recordsIn, offsetFits, finished, checked, marksOf, viewOf, withMarks, ruled}

@@ -10,7 +10,7 @@ use lib.ListN
 use lib.ListN.{length, getD}
 use Rattle.record.specs.Limits.{capacityLeast, capacityMost}
 use Rattle.record.specs.Record.{Record, cost}
-use Rattle.record.specs.Ring.{unrolled}
+use Rattle.ring.specs.Ring.{unrolled}
 use Rattle.log.specs.Answer.{Ruling, allowed, refused}
 use Rattle.log.specs.View.{Marks, View, nextOf}
 use Rattle.log.specs.Check.{freshLog, recordsIn, checked, marksOf, viewOf, withMarks, ruled}
