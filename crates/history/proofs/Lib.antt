@@ -5,4 +5,3 @@ pub mod Readers
 pub mod SoundLaws
 pub mod Demand2
 pub mod OnTheLog
-pub mod Cases

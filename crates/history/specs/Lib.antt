@@ -3,4 +3,3 @@ pub mod Past
 pub mod Demand1
 pub mod Demand2
 pub mod Readers
-pub mod Cases

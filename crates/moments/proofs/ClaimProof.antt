@@ -1,0 +1,105 @@
+-- Every row of the tables, by computation from the definitions: on a fresh log from the history, on one by hand from the log itself.
+use mathlib.Core.Path.{refl}
+use Rattle.number.specs.Decimal.{decimal, value, plainDecimal}
+use Rattle.escape.specs.Escape.{wellEscaped, unescape}
+use Rattle.record.specs.Dictionary.{isDictionary}
+use Rattle.record.specs.Record.{cost}
+use Rattle.record.specs.Heading.{headingOf, headingBytes, headingCost, headingFits, recordHeading, recordBytes}
+use Rattle.ring.specs.Ring.{unrolled, wrapped, ringPut}
+use Rattle.record.specs.Forms.{kmsgEntries, kmsgHeader, kmsgLine, syslogForm, syslogForms, syslogLength}
+use Rattle.log.specs.View.{nextOf, recordAt}
+use Rattle.log.specs.Check.{numbersFit, dictionaryBytes, recordFits, after, recordOf, skipped, walked, recordsIn, offsetFits, finished, checked, marksOf, viewOf, withMarks, ruled}
+use Rattle.log.specs.Write.{excess, droppedBy, keptBy, writtenLog, writtenBuffer}
+use Rattle.kmsg.specs.Prefix.{hasPrefix, prefixIn, afterPrefix, notKernel, withoutNewline, outsideRecord, boxRecord}
+use Rattle.kmsg.specs.Write.{outsideRuling, boxRuling, writeBy, outsideWrite, boxWrite}
+use Rattle.kmsg.specs.Read.{lineAt, readRuling, readRefused, readDone, readBy, seekRuling, seekPlace, seekBy, seeking}
+use Rattle.kmsg.specs.Read.{reading as kmsgReading}
+use Rattle.syslog.specs.Command.{fromNumber, fromOffset, unreadRecords, unread, copied, onward, moved, sinceClear, lastOf, commandRuling, marksAfter, given, count, commandBy, commanding}
+use Rattle.history.specs.Calls.{step, stateAfter}
+use Rattle.history.specs.Past.{firstHeld, held, pastWrite, pastStep, pastAfter, freshPast}
+use Rattle.message.specs.Message.{header, fields, field, body, lines, text, continuations, dictionary, isLong, isUnended, lacksHeader, lacksNumber, hasWrongByte, hasWrongEntry, isBulky, refusal, reading}
+use Rattle.message.specs.Line.{lineRefusal, readLine}
+use Rattle.board.specs.Board.{fresh, lacksRoom, boardRefusal, show, deliver}
+use Rattle.moments.specs.Case.{done, _and_}
+use Rattle.moments.specs.Table.{t1, t2, t3, t4, t5, t6, t7, t8, t9, t10, t11, t12, last-line, TableAgrees}
+use Rattle.moments.specs.Refusals.{readers-refused, writes-refused, commands-refused}
+use Rattle.moments.specs.Pages.{prefixes, from-box, seeks, goes-on, console-8, console-6, console-7, overtaken-end}
+use Rattle.moments.specs.Claim.{Claim}
+use Rattle.moments.proofs.CaseLaws.{isTimed, pastOutcome, sight, on-fresh}
+
+pub all-agree : Claim
+unfolding decimal value plainDecimal wellEscaped unescape isDictionary cost headingOf headingBytes headingCost headingFits recordHeading recordBytes unrolled wrapped ringPut kmsgEntries kmsgHeader kmsgLine syslogForm syslogForms syslogLength nextOf recordAt numbersFit dictionaryBytes recordFits after recordOf skipped walked recordsIn offsetFits finished checked marksOf viewOf withMarks ruled excess droppedBy keptBy writtenLog writtenBuffer hasPrefix prefixIn afterPrefix notKernel withoutNewline outsideRecord boxRecord outsideRuling boxRuling writeBy outsideWrite boxWrite lineAt readRuling readRefused readDone readBy kmsgReading seekRuling seekPlace seekBy seeking fromNumber fromOffset unreadRecords unread copied onward moved sinceClear lastOf commandRuling marksAfter given count commandBy commanding step stateAfter firstHeld held pastWrite pastStep pastAfter freshPast header fields field body lines text continuations dictionary isLong isUnended lacksHeader lacksNumber hasWrongByte hasWrongEntry isBulky refusal reading lineRefusal readLine fresh lacksRoom boardRefusal show deliver isTimed pastOutcome sight
+all-agree =
+    record {
+      moments = on-fresh t1 refl
+          and on-fresh t2 refl
+          and on-fresh t3 refl
+          and on-fresh t4 refl
+          and on-fresh t5 refl
+          and on-fresh t6 refl
+          and on-fresh t7 refl
+          and on-fresh t8 refl
+          and on-fresh t9 refl
+          and on-fresh t10 refl
+          and on-fresh t11 refl
+          and on-fresh t12 refl
+          and refl
+          and refl
+          and refl
+          and refl
+          and on-fresh last-line refl
+          and done;
+      refused = refl
+          and refl
+          and refl
+          and refl
+          and on-fresh readers-refused refl
+          and on-fresh writes-refused refl
+          and on-fresh commands-refused refl
+          and refl
+          and refl
+          and refl
+          and refl
+          and refl
+          and refl
+          and refl
+          and refl
+          and refl
+          and refl
+          and refl
+          and refl
+          and refl
+          and refl
+          and refl
+          and refl
+          and refl
+          and refl
+          and refl
+          and refl
+          and refl
+          and refl
+          and refl
+          and refl
+          and refl
+          and refl
+          and refl
+          and refl
+          and done;
+      others = on-fresh prefixes refl
+          and on-fresh from-box refl
+          and on-fresh seeks refl
+          and on-fresh goes-on refl
+          and on-fresh console-8 refl
+          and on-fresh console-6 refl
+          and on-fresh console-7 refl
+          and on-fresh overtaken-end refl
+          and refl
+          and refl
+          and refl
+          and refl
+          and done;
+    }
+
+-- T1 to T16
+pub table-agrees : TableAgrees
+table-agrees = all-agree .moments

@@ -1,0 +1,12 @@
+-- The claim: in every row of each table the definitions give what document 01 says.
+use Rattle.moments.specs.Case.{AllAgree}
+use Rattle.moments.specs.Table.{TableAgrees}
+use Rattle.moments.specs.Refusals.{refusals}
+use Rattle.moments.specs.Pages.{pages}
+
+pub record Claim : Type 0 where
+  -- T1 to T16
+  pub moments : TableAgrees
+  -- each number of "When the log says no", and 1 to 10
+  pub refused : AllAgree refusals
+  pub others : AllAgree pages

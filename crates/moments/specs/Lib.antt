@@ -1,0 +1,5 @@
+pub mod Case
+pub mod Table
+pub mod Refusals
+pub mod Pages
+pub mod Claim

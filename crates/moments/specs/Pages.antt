@@ -1,0 +1,203 @@
+-- What else the pages give to compute: prefixes, a record with a dictionary, seeks, command 2 over a dropped record, the console level, messages
+-- of a newer writer, a slot far in the board.
+use mathlib.Core.Bool.{true, false}
+use mathlib.Core.List.{List, [], _∷_, _++_}
+use lib.IntN.{pos}
+use lib.ListN.{replicate}
+use Rattle.slices.specs.Quoted.{quoted}
+use Rattle.board.specs.declared.Answer.the-variants.{Accepted as accepted}
+use Rattle.history.specs.Calls.{outside, box, make, read, seek, console}
+use Rattle.moments.specs.Case.{Wrote, At, Read, Sought, Told, Shown, _gives_, new, Calls, callsOf, Reads, shows, empty, Delivery, Case, calls, reads, delivers, minus, blank, asked}
+use Rattle.moments.specs.Table.{t11}
+
+-- prefixes at their limits: facility 0 becomes 1; one to four digits, and '>'
+abbrev pub prefixes : Calls
+prefixes =
+    record {
+      before = new;
+      earlier = [];
+      steps = make gives At 0
+          ∷ outside 0 (quoted "<7>x") gives Wrote (pos 4) 0
+          ∷ outside 0 (quoted "<8>x") gives Wrote (pos 4) 0
+          ∷ outside 0 (quoted "<0000>\n") gives Wrote (pos 7) 0
+          ∷ outside 0 (quoted "<00000>") gives Wrote (pos 7) 0
+          ∷ outside 0 (quoted "<>") gives Wrote (pos 2) 0
+          ∷ outside 0 (quoted "<1") gives Wrote (pos 2) 0
+          ∷ outside 0 (quoted "x<1>\n\n") gives Wrote (pos 6) 0
+          ∷ read 0 (blank 20) gives Read (pos 11) 0 1 (quoted "15,0,0,-;x\n" ++ blank 9)
+          ∷ read 0 (blank 20) gives Read (pos 10) 0 2 (quoted "8,1,0,-;x\n" ++ blank 10)
+          ∷ read 0 (blank 20) gives Read (pos 9) 0 3 (quoted "8,2,0,-;\n" ++ blank 11)
+          ∷ read 0 (blank 20) gives Read (pos 17) 0 4 (quoted "12,3,0,-;<00000>\n" ++ blank 3)
+          ∷ read 0 (blank 20) gives Read (pos 12) 0 5 (quoted "12,4,0,-;<>\n" ++ blank 8)
+          ∷ read 0 (blank 20) gives Read (pos 12) 0 6 (quoted "12,5,0,-;<1\n" ++ blank 8)
+          ∷ read 0 (blank 20) gives Read (pos 18) 0 7 (quoted "12,6,0,-;x<1>\\x0a\n" ++ blank 2)
+          ∷ [];
+      after = record { used = 186; first = 0; next = 7; level = 7 };
+    }
+
+-- 001's record with continuation lines
+abbrev pub from-box : Calls
+from-box =
+    record {
+      before = new;
+      earlier = [];
+      steps = make gives At 0
+          ∷ box 0 7 424069000 (quoted "pci_root PNP0A03:00: host bridge window [io  0x0000-0x0cf7] (ignored)") (quoted "SUBSYSTEM=acpi\0DEVICE=+acpi:PNP0A03:00") gives Wrote (pos 107) 0
+          ∷ read 0 (blank 124) gives Read (pos 124) 0 1 (quoted "7,0,424069,-;pci_root PNP0A03:00: host bridge window [io  0x0000-0x0cf7] (ignored)\n SUBSYSTEM=acpi\n DEVICE=+acpi:PNP0A03:00\n")
+          ∷ asked 9 0 [] gives Told (pos 73) []
+          ∷ [];
+      after = record { used = 131; first = 0; next = 1; level = 7 };
+    }
+
+-- seek: SET first, END next, DATA the clear mark, 0 before any clear; command 4 with len 0 sets it
+abbrev pub seeks : Calls
+seeks =
+    record {
+      before = new;
+      earlier = [];
+      steps = make gives At 0
+          ∷ outside 0 (quoted "a") gives Wrote (pos 1) 0
+          ∷ outside 0 (quoted "b") gives Wrote (pos 1) 0
+          ∷ seek 0 (pos 0) (pos 2) gives Sought (pos 0) 2
+          ∷ seek 0 (pos 0) (pos 3) gives Sought (pos 0) 0
+          ∷ asked 4 0 [] gives Told (pos 0) []
+          ∷ seek 0 (pos 0) (pos 3) gives Sought (pos 0) 2
+          ∷ outside 0 (quoted "c") gives Wrote (pos 1) 0
+          ∷ asked 3 9 (blank 9) gives Told (pos 6) (quoted "<12>c\n" ++ blank 3)
+          ∷ seek 0 (pos 0) (pos 0) gives Sought (pos 0) 0
+          ∷ asked 4 3 (blank 4) gives Told (pos 3) (quoted ">c\n" ++ blank 1)
+          ∷ asked 3 9 (blank 9) gives Told (pos 0) (blank 9)
+          ∷ [];
+      after = record { used = 75; first = 0; next = 3; level = 7 };
+    }
+
+-- command 2: its record dropped, it goes on from the oldest record's first byte; a record read to its end leaves it at the next
+abbrev pub goes-on : Calls
+goes-on =
+    record {
+      before = new;
+      earlier = [];
+      steps = outside 0 (replicate 960 97) gives Wrote (pos 960) 0
+          ∷ asked 2 5 (blank 5) gives Told (pos 5) (quoted "<12>a")
+          ∷ asked 9 0 [] gives Told (pos 960) []
+          ∷ outside 0 (replicate 960 98) gives Wrote (pos 960) 1
+          ∷ asked 9 0 [] gives Told (pos 965) []
+          ∷ asked 2 5 (blank 5) gives Told (pos 5) (quoted "<12>b")
+          ∷ outside 0 (quoted "c") gives Wrote (pos 1) 0
+          ∷ asked 2 960 (blank 960) gives Told (pos 960) (replicate 959 98 ++ (10 ∷ []))
+          ∷ asked 2 9 (blank 9) gives Told (pos 6) (quoted "<12>c\n" ++ blank 3)
+          ∷ asked 9 0 [] gives Told (pos 0) []
+          ∷ [];
+      after = record { used = 1009; first = 1; next = 3; level = 7 };
+    }
+
+-- the console level: 8 sets it to len; the console question
+abbrev pub console-8 : Calls
+console-8 =
+    record {
+      before = new;
+      earlier = [];
+      steps = asked 0 0 [] gives Told (pos 0) []
+          ∷ asked 1 0 [] gives Told (pos 0) []
+          ∷ asked 8 4 [] gives Told (pos 0) []
+          ∷ console (pos 3) (pos 4) gives Shown true
+          ∷ console (pos 4) (pos 4) gives Shown false
+          ∷ console (minus 1) (pos 0) gives Shown true
+          ∷ [];
+      after = record { used = 0; first = 0; next = 0; level = 4 };
+    }
+
+-- 6 sets it to 1
+abbrev pub console-6 : Calls
+console-6 =
+    record {
+      before = new;
+      earlier = callsOf console-8;
+      steps = asked 6 0 [] gives Told (pos 0) [] ∷ [];
+      after = record { used = 0; first = 0; next = 0; level = 1 };
+    }
+
+-- 7 sets it to 7
+abbrev pub console-7 : Calls
+console-7 =
+    record {
+      before = new;
+      earlier = callsOf console-6;
+      steps = asked 7 0 [] gives Told (pos 0) [] ∷ [];
+      after = record { used = 0; first = 0; next = 0; level = 7 };
+    }
+
+-- after T11 a new reader is at 1, and END is 43
+abbrev pub overtaken-end : Calls
+overtaken-end =
+    record {
+      before = new;
+      earlier = callsOf t11;
+      steps = make gives At 1 ∷ seek 1 (pos 0) (pos 2) gives Sought (pos 0) 43 ∷ [];
+      after = record { used = 1008; first = 1; next = 43; level = 7 };
+    }
+
+-- any legal escape is read, needed or not; entries are joined by zero bytes; fields after the fourth are ignored; flag 'c' is 1
+abbrev pub newer-writer : Reads
+newer-writer =
+    record {
+      messages = quoted "30,4,5,c,,=,x=1;a\\x41,;\\x0a\n k\\x3d1\n l=\n" ∷ [];
+      prefix = 30;
+      sequence = 4;
+      time = 5;
+      flag = 1;
+      text = quoted "aA,;\n";
+      dictionary = quoted "k=1\0l=";
+    }
+
+-- flag '+' is 2
+abbrev pub flag-plus : Reads
+flag-plus =
+    record {
+      messages = quoted "1,2,3,+;x\n" ∷ [];
+      prefix = 1;
+      sequence = 2;
+      time = 3;
+      flag = 2;
+      text = quoted "x";
+      dictionary = [];
+    }
+
+-- any other flag is 3
+abbrev pub flag-other : Reads
+flag-other =
+    record {
+      messages = quoted "1,2,3,--;x\n" ∷ [];
+      prefix = 1;
+      sequence = 2;
+      time = 3;
+      flag = 3;
+      text = quoted "x";
+      dictionary = [];
+    }
+
+-- channel 23: the text lies in front of its own slot, and nowhere else
+abbrev pub last-slot : Delivery
+last-slot =
+    record {
+      earlier = [];
+      message = quoted "191,5,1,-;up\n";
+      answer = accepted;
+      channels = replicate 7 empty ++ (shows 5 (quoted "up") ∷ []);
+    }
+
+abbrev pub pages : List Case
+pages =
+    calls prefixes
+    ∷ calls from-box
+    ∷ calls seeks
+    ∷ calls goes-on
+    ∷ calls console-8
+    ∷ calls console-6
+    ∷ calls console-7
+    ∷ calls overtaken-end
+    ∷ reads newer-writer
+    ∷ reads flag-plus
+    ∷ reads flag-other
+    ∷ delivers last-slot
+    ∷ []

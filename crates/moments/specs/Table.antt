@@ -1,0 +1,250 @@
+-- Document 01's "Moments to try": a row for each of T1 to T16, then the section's last line.
+use mathlib.Core.List.{List, [], _∷_, _++_}
+use lib.IntN.{pos}
+use lib.ListN.{replicate}
+use Rattle.slices.specs.Quoted.{quoted}
+use Rattle.board.specs.declared.Answer.the-variants.{Accepted as accepted, Refused as refused}
+use Rattle.history.specs.Calls.{outside, make, read, seek}
+use Rattle.moments.specs.Case.{Wrote, At, Read, Sought, Told, _gives_, new, Calls, callsOf, Reads, shows, empty, Delivery, messagesOf, Case, calls, reads, delivers, AllAgree, minus, blank, asked}
+
+-- T1 fresh, outside "<134>GOAL home 1" at 5,000,999 ns: answer 16, cost 35, line "134,0,5000,-;GOAL home 1" of 25 bytes with newline
+abbrev pub t1 : Calls
+t1 =
+    record {
+      before = new;
+      earlier = [];
+      steps = make gives At 0
+          ∷ outside 5000999 (quoted "<134>GOAL home 1") gives Wrote (pos 16) 0
+          ∷ read 0 (blank 30) gives Read (pos 25) 0 1 (quoted "134,0,5000,-;GOAL home 1\n" ++ blank 5)
+          ∷ [];
+      after = record { used = 35; first = 0; next = 1; level = 7 };
+    }
+
+-- T2 then command 9: 17; 2 with len 5: "<134>"; 9: 12
+abbrev pub t2 : Calls
+t2 =
+    record {
+      before = new;
+      earlier = callsOf t1;
+      steps = asked 9 0 [] gives Told (pos 17) []
+          ∷ asked 2 5 (blank 6) gives Told (pos 5) (quoted "<134>" ++ blank 1)
+          ∷ asked 9 0 [] gives Told (pos 12) []
+          ∷ [];
+      after = record { used = 35; first = 0; next = 1; level = 7 };
+    }
+
+-- T3 then 3 with len 4: "e 1" and newline
+abbrev pub t3 : Calls
+t3 =
+    record {
+      before = new;
+      earlier = callsOf t2;
+      steps = asked 3 4 (blank 4) gives Told (pos 4) (quoted "e 1\n") ∷ [];
+      after = record { used = 35; first = 0; next = 1; level = 7 };
+    }
+
+-- T4 command 5, then 3: 0, and 9 still 12
+abbrev pub t4 : Calls
+t4 =
+    record {
+      before = new;
+      earlier = callsOf t3;
+      steps = asked 5 0 [] gives Told (pos 0) []
+          ∷ asked 3 4 (blank 4) gives Told (pos 0) (blank 4)
+          ∷ asked 9 0 [] gives Told (pos 12) []
+          ∷ [];
+      after = record { used = 35; first = 0; next = 1; level = 7 };
+    }
+
+-- T5 "<3>x": prefix 11
+abbrev pub t5 : Calls
+t5 =
+    record {
+      before = new;
+      earlier = [];
+      steps = make gives At 0
+          ∷ outside 0 (quoted "<3>x") gives Wrote (pos 4) 0
+          ∷ read 0 (blank 11) gives Read (pos 11) 0 1 (quoted "11,0,0,-;x\n")
+          ∷ [];
+      after = record { used = 25; first = 0; next = 1; level = 7 };
+    }
+
+-- T6 "<2047>x": 2047; "<2048>x" is all text, prefix 12
+abbrev pub t6 : Calls
+t6 =
+    record {
+      before = new;
+      earlier = [];
+      steps = make gives At 0
+          ∷ outside 0 (quoted "<2047>x") gives Wrote (pos 7) 0
+          ∷ outside 0 (quoted "<2048>x") gives Wrote (pos 7) 0
+          ∷ read 0 (blank 13) gives Read (pos 13) 0 1 (quoted "2047,0,0,-;x\n")
+          ∷ read 0 (blank 17) gives Read (pos 17) 0 2 (quoted "12,1,0,-;<2048>x\n")
+          ∷ [];
+      after = record { used = 56; first = 0; next = 2; level = 7 };
+    }
+
+-- T7 empty write at time 0: "12,0,0,-;"
+abbrev pub t7 : Calls
+t7 =
+    record {
+      before = new;
+      earlier = [];
+      steps = make gives At 0
+          ∷ outside 0 [] gives Wrote (pos 0) 0
+          ∷ read 0 (blank 10) gives Read (pos 10) 0 1 (quoted "12,0,0,-;\n")
+          ∷ [];
+      after = record { used = 24; first = 0; next = 1; level = 7 };
+    }
+
+-- T8 two newlines: text line "\x0a"
+abbrev pub t8 : Calls
+t8 =
+    record {
+      before = new;
+      earlier = [];
+      steps = make gives At 0
+          ∷ outside 0 (quoted "\n\n") gives Wrote (pos 2) 0
+          ∷ read 0 (blank 14) gives Read (pos 14) 0 1 (quoted "12,0,0,-;\\x0a\n")
+          ∷ [];
+      after = record { used = 25; first = 0; next = 1; level = 7 };
+    }
+
+-- T9 byte 126 stands, 127 and '\' become \x7f and \x5c
+abbrev pub t9 : Calls
+t9 =
+    record {
+      before = new;
+      earlier = [];
+      steps = make gives At 0
+          ∷ outside 0 (126 ∷ 127 ∷ 92 ∷ []) gives Wrote (pos 3) 0
+          ∷ read 0 (blank 19) gives Read (pos 19) 0 1 (quoted "12,0,0,-;~\\x7f\\x5c\n")
+          ∷ [];
+      after = record { used = 27; first = 0; next = 1; level = 7 };
+    }
+
+-- T10 999 ns is 0, 1,000 ns is 1
+abbrev pub t10 : Calls
+t10 =
+    record {
+      before = new;
+      earlier = [];
+      steps = make gives At 0
+          ∷ outside 999 [] gives Wrote (pos 0) 0
+          ∷ outside 1000 [] gives Wrote (pos 0) 0
+          ∷ read 0 (blank 10) gives Read (pos 10) 0 1 (quoted "12,0,0,-;\n")
+          ∷ read 0 (blank 10) gives Read (pos 10) 0 2 (quoted "12,1,1,-;\n")
+          ∷ [];
+      after = record { used = 48; first = 0; next = 2; level = 7 };
+    }
+
+-- T11 capacity 1,024: 43 empty writes leave 42, first 1; a reader at 0 gets -32, lost 1
+abbrev pub t11 : Calls
+t11 =
+    record {
+      before = new;
+      earlier = [];
+      steps = make gives At 0
+          ∷ (replicate 42 (outside 0 [] gives Wrote (pos 0) 0)
+          ++ (outside 0 [] gives Wrote (pos 0) 1
+          ∷ read 0 [] gives Read (minus 32) 1 1 []
+          ∷ []));
+      after = record { used = 1008; first = 1; next = 43; level = 7 };
+    }
+
+-- T12 then 960 plain bytes: 41 dropped, first 42. 961: -22
+abbrev pub t12 : Calls
+t12 =
+    record {
+      before = new;
+      earlier = callsOf t11;
+      steps = outside 0 (replicate 960 97) gives Wrote (pos 960) 41
+          ∷ make gives At 42
+          ∷ outside 0 (replicate 961 97) gives Wrote (minus 22) 0
+          ∷ [];
+      after = record { used = 1008; first = 42; next = 44; level = 7 };
+    }
+
+-- T13 "6,339,5140900,-;NET: Registered protocol family 10" (001), and the same with ",caller=T1" before ';', read alike
+abbrev pub t13 : Reads
+t13 =
+    record {
+      messages = quoted "6,339,5140900,-;NET: Registered protocol family 10\n"
+          ∷ quoted "6,339,5140900,-,caller=T1;NET: Registered protocol family 10\n"
+          ∷ [];
+      prefix = 6;
+      sequence = 339;
+      time = 5140900;
+      flag = 0;
+      text = quoted "NET: Registered protocol family 10";
+      dictionary = [];
+    }
+
+-- T14 "134,7,1,-;1-0" shown
+abbrev pub t14 : Delivery
+t14 =
+    record {
+      earlier = [];
+      message = quoted "134,7,1,-;1-0\n";
+      answer = accepted;
+      channels = shows 7 (quoted "1-0") ∷ replicate 7 empty;
+    }
+
+-- T15 "134,9,3,-;0-0" shown
+abbrev pub t15 : Delivery
+t15 =
+    record {
+      earlier = messagesOf t14;
+      message = quoted "134,9,3,-;0-0\n";
+      answer = accepted;
+      channels = shows 9 (quoted "0-0") ∷ replicate 7 empty;
+    }
+
+-- T16 "134,8,2,-;1-0" gives 10
+abbrev pub t16 : Delivery
+t16 =
+    record {
+      earlier = messagesOf t15;
+      message = quoted "134,8,2,-;1-0\n";
+      answer = refused 10;
+      channels = shows 9 (quoted "0-0") ∷ replicate 7 empty;
+    }
+
+-- Command 8 with 0 or 9: -22. Seek with offset 1 and whence 1: -29
+abbrev pub last-line : Calls
+last-line =
+    record {
+      before = new;
+      earlier = [];
+      steps = make gives At 0
+          ∷ asked 8 0 [] gives Told (minus 22) []
+          ∷ asked 8 9 [] gives Told (minus 22) []
+          ∷ seek 0 (pos 1) (pos 1) gives Sought (minus 29) 0
+          ∷ [];
+      after = record { used = 0; first = 0; next = 0; level = 7 };
+    }
+
+abbrev pub table : List Case
+table =
+    calls t1
+    ∷ calls t2
+    ∷ calls t3
+    ∷ calls t4
+    ∷ calls t5
+    ∷ calls t6
+    ∷ calls t7
+    ∷ calls t8
+    ∷ calls t9
+    ∷ calls t10
+    ∷ calls t11
+    ∷ calls t12
+    ∷ reads t13
+    ∷ delivers t14
+    ∷ delivers t15
+    ∷ delivers t16
+    ∷ calls last-line
+    ∷ []
+
+-- the definitions give in each row what document 01 says
+abbrev pub TableAgrees : Type 0
+TableAgrees = AllAgree table
