@@ -1,5 +1,5 @@
 #!/usr/bin/env python3
-"""What crates/cases writes for the leaf crates, worked out from document 01 with Python's own numbers and strings."""
+"""What crates/leaves writes for the leaf crates, worked out from document 01 with Python's own numbers and strings."""
 import re
 import sys
 

@@ -1,11 +1,12 @@
-// Runs the worked cases of document 01 on the real calls and writes what they answer. The file stdout beside src/ has what they should.
-mod decimals;
-mod escapes;
-mod rings;
-mod say;
+// Runs the moments of document 01, and each number of its tables, on the real calls and writes what they answer. The file stdout beside src/ has
+// what they should.
+mod calls;
+mod moments;
+mod received;
+mod refusals;
 
 fn main() {
-    decimals::all();
-    escapes::all();
-    rings::all();
+    moments::all();
+    received::all();
+    refusals::all();
 }

@@ -1,9 +1,9 @@
--- `cases::rings::from` is safe and ends.
+-- `leaves::rings::from` is safe and ends.
 use Prim.Native.Nat.{_≤_, _-_}
 use native.Mathlib.Omega.{arith}
 use borrow.Author.Needs.{needs}
-use Rattle.cases.proofs.rings.from.Statement.{statement}
-use Rattle.cases.proofs.rings.from.Tie as tie
+use Rattle.leaves.proofs.rings.from.Statement.{statement}
+use Rattle.leaves.proofs.rings.from.Tie as tie
 
 abbrev Inv-loop : tie.InvT-loop
 Inv-loop start used₀ used = used ≤ 8

@@ -1,5 +1,4 @@
 // The \x form: T9, and every byte written and read back.
-use crate::say;
 use escape::Unescaped;
 use slices::Placed;
 

@@ -1,9 +1,9 @@
--- `cases::rings::straight` is safe and ends.
+-- `leaves::rings::straight` is safe and ends.
 use Prim.Native.Nat.{_≤_, _-_}
 use native.Mathlib.Omega.{arith}
 use borrow.Author.Needs.{needs}
-use Rattle.cases.proofs.rings.straight.Statement.{statement}
-use Rattle.cases.proofs.rings.straight.Tie as tie
+use Rattle.leaves.proofs.rings.straight.Statement.{statement}
+use Rattle.leaves.proofs.rings.straight.Tie as tie
 
 abbrev Inv-loop : tie.InvT-loop
 Inv-loop buffer start used i₀ i = i ≤ used

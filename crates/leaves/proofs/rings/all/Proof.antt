@@ -1,9 +1,9 @@
--- `cases::rings::all` is safe and ends.
+-- `leaves::rings::all` is safe and ends.
 use Prim.Native.Nat.{_≤_, _-_}
 use native.Mathlib.Omega.{arith}
 use borrow.Author.Needs.{needs}
-use Rattle.cases.proofs.rings.all.Statement.{statement}
-use Rattle.cases.proofs.rings.all.Tie as tie
+use Rattle.leaves.proofs.rings.all.Statement.{statement}
+use Rattle.leaves.proofs.rings.all.Tie as tie
 
 abbrev Inv-loop : tie.InvT-loop
 Inv-loop start₀ start = start ≤ 7

@@ -1,9 +1,9 @@
--- `cases::escapes::every_byte` is safe and ends.
+-- `leaves::escapes::every_byte` is safe and ends.
 use Prim.Native.Nat.{_≤_, _-_}
 use native.Mathlib.Omega.{arith}
 use borrow.Author.Needs.{needs}
-use Rattle.cases.proofs.escapes.every_byte.Statement.{statement}
-use Rattle.cases.proofs.escapes.every_byte.Tie as tie
+use Rattle.leaves.proofs.escapes.every_byte.Statement.{statement}
+use Rattle.leaves.proofs.escapes.every_byte.Tie as tie
 
 abbrev Inv-loop : tie.InvT-loop
 Inv-loop b₀ b = b ≤ 256
