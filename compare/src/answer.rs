@@ -106,7 +106,7 @@ impl Machine {
                 write(log, |log| log.outside(time, &handed))
             }
             ["box", facility, level, time, text, dictionary] => {
-                let (facility, level) = (int(facility)?, int(level)?);
+                let (facility, level) = (any_int(facility)?, any_int(level)?);
                 let time = num(time)?;
                 let (text, dictionary) = (unhex(text)?, unhex(dictionary)?);
                 let log = self.log.as_mut()?;
@@ -165,7 +165,7 @@ impl Machine {
                 Some(format!("{answer} {bytes}{}", mark(changed)))
             }
             ["console", level, setting] => {
-                let yes = to_console(int(level)?, int(setting)?);
+                let yes = to_console(wide_int(level)?, wide_int(setting)?);
                 Some(if yes { "yes" } else { "no" }.into())
             }
             ["board", fill] => {
@@ -289,11 +289,16 @@ fn num_to(word: &str, top: u64) -> Option<u64> {
     num(word).filter(|&value| value <= top)
 }
 
-fn wide_int(word: &str) -> Option<i64> {
+/// From -2^63 to 2^64 - 1: what some call takes, of one sign or the other.
+fn any_int(word: &str) -> Option<i128> {
     let digits = word.strip_prefix('-').unwrap_or(word);
     let value = i128::from(num(digits)?);
     let value = if word.starts_with('-') { -value } else { value };
-    i64::try_from(value).ok()
+    (value >= i128::from(i64::MIN)).then_some(value)
+}
+
+fn wide_int(word: &str) -> Option<i64> {
+    i64::try_from(any_int(word)?).ok()
 }
 
 fn int(word: &str) -> Option<i32> {

@@ -209,6 +209,15 @@ fn the_console_question() {
     play.is("console -1 0", "yes");
     play.is("console 0 -1", "no");
     play.is("console -2147483648 2147483647", "yes");
+    play.is("console 2147483648 2147483647", "no");
+    play.is("console -9223372036854775808 9223372036854775807", "yes");
+    play.all(
+        &[
+            "console 9223372036854775808 0",
+            "console 0 -9223372036854775809",
+        ],
+        "?",
+    );
 }
 
 #[test]
