@@ -1,8 +1,9 @@
 # make test: the whole gate. make run: the board for a sample match, or for one's own input with INPUT=file.
-# Both need nothing but the toolchain.
+# make replay INPUT=file: a script of calls, and what the box would answer to each line.
+# All need nothing but the toolchain; the gate also wants cargo, for the second program.
 INPUT ?= samples/match.kmsg
 
-.PHONY: test run
+.PHONY: test run replay
 test:
 	bash .ci/run
 
@@ -12,3 +13,9 @@ run:
 	@rt check receiver >target/run.log 2>&1 || { tail -n 20 target/run.log; exit 1; }
 	@echo "the board after $(INPUT):"
 	@target/bin/receiver <"$(INPUT)"
+
+replay:
+	@mkdir -p target
+	@echo "proving and building the replay (its log: target/replay.log)" >&2
+	@rt check replay >target/replay.log 2>&1 || { tail -n 20 target/replay.log >&2; exit 1; }
+	@target/bin/replay <"$(INPUT)"

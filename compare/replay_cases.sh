@@ -1,0 +1,113 @@
+#!/bin/bash
+# The replay program beside the second program: scripts from fixed seeds, and inputs made by hand, compared byte for byte.
+# replay_cases.sh [PROGRAM]: prints each case that differs with its first line that does, and what was compared.
+set -uo pipefail
+cd "$(dirname "$0")/.."
+program=${1:-target/bin/replay}
+second=compare/target/release/compare
+[ -x "$program" ] || { echo "no program $program: run 'rt check replay' first"; exit 2; }
+(cd compare && cargo build --release --offline --quiet) || exit 2
+room=$(mktemp -d)
+trap 'rm -rf "$room"' EXIT
+passed=0 failed=0 lines=0 messages=0
+
+# held NAME: what the program writes for $room/in has to be $room/want
+held() {
+    "$program" <"$room/in" >"$room/wrote"
+    if cmp -s "$room/want" "$room/wrote"; then
+        passed=$((passed + 1))
+        return
+    fi
+    failed=$((failed + 1))
+    line=$(diff --text "$room/want" "$room/wrote" | sed -n '1s/[^0-9].*//p')
+    echo "DIFFERS: $1, line $line"
+    echo "  script: $(sed -n "${line}p" "$room/in" | cut -c1-200)"
+    echo "  wanted: $(sed -n "${line}p" "$room/want" | cut -c1-200)"
+    echo "  wrote:  $(sed -n "${line}p" "$room/wrote" | cut -c1-200)"
+}
+
+# case_of NAME INPUT WANT: both as printf has them. What is wanted was worked out by hand, and the second program has to say it too.
+case_of() {
+    printf "$2" >"$room/in"
+    printf "$3" >"$room/want"
+    hand "$1"
+}
+
+# hand NAME: $room/want was worked out by hand
+hand() {
+    if ! "$second" answer <"$room/in" | cmp -s - "$room/want"; then
+        failed=$((failed + 1))
+        echo "DIFFERS: $1, the second program from what was worked out by hand"
+    fi
+    held "$1"
+}
+
+# script SEED LINES [wide]
+script() {
+    "$second" script "$@" >"$room/in"
+    "$second" answer <"$room/in" >"$room/want"
+    lines=$((lines + $(wc -l <"$room/in")))
+    messages=$((messages + $(grep --text -c -E '^(deliver|line) ' "$room/in")))
+    held "script $*"
+}
+
+# many COUNT BYTE: that byte so often
+many() { head -c "$1" /dev/zero | tr '\0' "$2"; }
+
+# ---- lines
+case_of 'empty input' '' ''
+case_of 'one newline' '\n' '?\n'
+case_of 'no final newline' 'console 6 7\nconsole 7 7' 'yes\nno\n'
+case_of 'words' ' console 6 7\nconsole 6 7 \nconsole  6 7\nconsole 6\nconsole 6 7 8\nCONSOLE 6 7\n' '?\n?\n?\n?\n?\n?\n'
+case_of 'carriage return, zero byte, bytes that are no text' 'console 6 7\r\nconsole 6\0007\n\377\376\n' '?\n?\n?\n'
+case_of 'numbers' 'console 006 007\nconsole -0 0\nconsole -1 -0\nconsole +6 7\nconsole - 7\nconsole 6x 7\n' 'yes\nno\nyes\n?\n?\n?\n'
+case_of 'ends of i64' 'console -9223372036854775808 9223372036854775807\nconsole 9223372036854775808 0\nconsole -9223372036854775809 0\n' 'yes\n?\n?\n'
+# digits in pairs make a message that is too long: 2, unless the line is no call
+for line in 'line 39994 2' 'deliver 39992 2' 'line 39996 ?' 'line 99996 ?'; do
+    read -r name digits answer <<<"$line"
+    { printf 'board 0\n%s ' "$name"; many "$digits" 0; printf '\nconsole 6 7\n'; } >"$room/in"
+    printf 'board\n%s\nyes\n' "$answer" >"$room/want"
+    hand "a line of $((${#name} + 1 + digits)) bytes"
+done
+{ printf 'log 1024 0\npoke 0 -'; many 39992 ' '; printf '\npoke 0 '; many 39992 0; printf 'ff\npeek 0 1\n'; } >"$room/in"
+printf 'log\n?\n?\n00\n' >"$room/want"
+hand 'a line whose front alone would be a call'
+many 40001 x >"$room/in"
+printf '?\n' >"$room/want"
+hand 'a long line without its newline'
+
+# ---- nothing is there before it is made
+case_of 'before a log' 'numbers\ncheck\nreader\nnumber start 0\npoke 0 00\npeek 0 1\noutside 0 -\nbox 1 1 0 - -\nat 0 0\nwhere 0\nread 0 0\nseek 0 0 0\ncommand 10 0 1 0 0\n' '?\n?\n?\n?\n?\n?\n?\n?\n?\n?\n?\n?\n?\n'
+case_of 'before a board' 'slot 16\ndeliver -\nline -\nboard 7\nslot 16\nslot 15\nslot 24\n' '?\n?\n3\nboard\nnothing 0\n?\n?\n'
+
+# ---- readers
+{ echo 'log 1024 0'; for i in $(seq 17); do echo reader; done; printf 'where 15\nwhere 16\nlog 1024 0\nwhere 0\n'; } >"$room/in"
+{ echo log; for i in $(seq 0 15); do echo "reader $i"; done; printf '?\n0\n?\nlog\n?\n'; } >"$room/want"
+hand 'seventeen readers'
+
+# ---- T1 to T4, T11 and T14 to T16 of document 01
+case_of 'T1 to T4' 'log 1024 0\nreader\noutside 5000999 3c3133343e474f414c20686f6d652031\nread 0 5000\ncommand 9 0 1 0 0\ncommand 2 5 1 0 5\ncommand 9 0 1 0 0\ncommand 3 4 1 0 4\ncommand 5 0 1 0 0\ncommand 3 9 1 0 9\ncommand 9 0 1 0 0\n' 'log\nreader 0\n16 0\n25 0 3133342c302c353030302c2d3b474f414c20686f6d6520310a\n17 -\n5 3c3133343e\n12 -\n4 6520310a\n0 -\n0 -\n12 -\n'
+{ printf 'log 1024 165\nreader\n'; for i in $(seq 43); do echo 'outside 0 -'; done; printf 'numbers\nread 0 10\nread 0 9\nread 0 10\n'; } >"$room/in"
+{ printf 'log\nreader 0\n'; for i in $(seq 42); do echo '0 0'; done; printf '0 1\n24 1008 1 43 0 0 0 7\n-32 1 -\n-22 0 -\n10 0 31322c312c302c2d3b0a\n'; } >"$room/want"
+hand 'T11'
+case_of 'T14 to T16' 'board 0\ndeliver 3133342c372c312c2d3b312d300a\ndeliver 3133342c392c332c2d3b302d300a\ndeliver 3133342c382c322c2d3b312d300a\nslot 16\nline 3133342c382c322c2d3b312d300a\n' 'board\n0\n0\n10\n9 3 302d30\n0 134 8 2 0 312d30 -\n'
+
+# ---- the longest answers, and buffers of no size
+{ printf 'log 70000 171\npeek 0 70000\nlog 0 7\npeek 0 9\ncheck\noutside 0 61\n'; } >"$room/in"
+{ echo log; many 70000 @ | sed 's/@/ab/g'; printf '\nlog\n-\nnumbers\n-77 0\n'; } >"$room/want"
+hand 'a peek at the largest buffer'
+
+# ---- scripts
+script 101 4000
+script 102 4000
+script 103 4000
+script 104 4000
+script 105 4000 wide
+
+# ---- input that comes in pieces
+printf 'yes\nno\n' >"$room/want"
+{ printf 'conso'; sleep 0.1; printf 'le 6 7\nconsole 7'; sleep 0.1; printf ' 7'; } | "$program" >"$room/wrote"
+if cmp -s "$room/want" "$room/wrote"; then passed=$((passed + 1)); else failed=$((failed + 1)); echo 'DIFFERS: input in pieces'; fi
+
+echo "replay: $lines script lines and $messages messages compared; $passed passed, $failed failed"
+[ "$failed" -eq 0 ]
