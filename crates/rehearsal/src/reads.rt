@@ -84,6 +84,7 @@ fn at(line: &[u8], words: Words, state: LogState, out: &mut [u8]) -> LogTold {
     }
 }
 
+// The record that a reader reads next, told.
 fn place(line: &[u8], words: Words, state: LogState, out: &mut [u8]) -> LogTold {
     let Found::At(k) = reader_named(line, words, state) else {
         return log_state::no_call(state);
@@ -126,6 +127,7 @@ fn read_into(
     }
 }
 
+// A read, into a buffer filled before.
 fn read(line: &[u8], words: Words, state: LogState, buffer: &[u8], out: &mut [u8]) -> LogTold {
     let Found::At(k) = reader_named(line, words, state) else {
         return log_state::no_call(state);

@@ -1,3 +1,4 @@
+-- `rehearsal::reads::commanded` is safe: no more is lent than there is.
 use native.Mathlib.Omega.{arith}
 use lib.ListN.{length-take}
 use borrow.Author.Needs.{needs}

@@ -1,3 +1,4 @@
+-- `replay::lines::answer_chunk` is safe and ends: each line begins behind the newline of the one before it.
 use native.Mathlib.Omega.{arith}
 use borrow.Author.Needs.{needs}
 use mathlib.Core.Path.{_≡_}

@@ -1,3 +1,4 @@
+-- `replay::lines::answer_input` is safe and ends: the turns left are the measure, and the buffers keep their lengths.
 use borrow.Author.Needs.{needs}
 use mathlib.Core.Path.{_≡_}
 use lib.ListN.{length}

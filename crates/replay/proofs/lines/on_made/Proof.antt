@@ -1,3 +1,4 @@
+-- `replay::lines::on_made` is safe: the log's part of the buffer was measured.
 use native.Mathlib.Omega.{arith}
 use lib.ListN.{length-take}
 use borrow.Author.Needs.{needs}

@@ -1,3 +1,4 @@
+-- `replay::lines::run` is safe: the buffers keep their lengths.
 use borrow.Author.Needs.{needs}
 use Rattle.replay.proofs.lines.run.Statement.{statement}
 use Rattle.replay.proofs.lines.run.Tie as tie

@@ -1,3 +1,4 @@
+-- `replay::receiving::delivery_stayed` is safe and ends.
 use borrow.Author.Needs.{needs}
 use Prim.Native.Nat.{_-_}
 use lib.ListN.{length}

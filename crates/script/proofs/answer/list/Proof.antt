@@ -1,3 +1,4 @@
+-- `script::answer::list` is safe and ends: eight numbers at most, and the buffer keeps its length.
 use borrow.Author.Needs.{needs}
 use mathlib.Core.Path.{_≡_}
 use Prim.Native.Nat.{_-_}

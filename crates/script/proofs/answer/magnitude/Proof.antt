@@ -1,3 +1,4 @@
+-- `script::answer::magnitude` is safe: but for the smallest, a number below 0 has its opposite in the type.
 use mir.Facts.{sfits-toZ, fits-ofZ}
 use mathlib.Core.Path.{_≡_}
 use mathlib.Core.Bool.{true, false}

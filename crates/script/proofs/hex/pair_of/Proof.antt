@@ -1,3 +1,4 @@
+-- `script::hex::pair_of` is safe: both characters were tested before they are read as a pair.
 use mathlib.Core.Path.{sym, _∙_}
 use borrow.Author.Needs.{needs}
 use Rattle.script.proofs.hex.pair_of.Statement.{statement}

@@ -1,3 +1,4 @@
+-- `script::hex::read` is safe and ends: two characters for each byte, and the buffer was measured for the bytes.
 use borrow.Author.Needs.{needs}
 use mathlib.Core.Path.{_≡_}
 use Prim.Native.Nat.{_≤_, _+_, _-_}

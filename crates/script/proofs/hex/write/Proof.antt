@@ -1,3 +1,4 @@
+-- `script::hex::write` is safe and ends: the buffer was measured for two digits for each byte.
 use borrow.Author.Needs.{needs}
 use mathlib.Core.Path.{_≡_}
 use Prim.Native.Nat.{_≤_, _+_, _-_, _*_}

@@ -1,3 +1,4 @@
+-- `script::hex::write_byte` is safe: there is room for two digits.
 use native.Mathlib.Omega.{arith}
 use lib.ListN.{length-set}
 use borrow.Author.Needs.{needs}

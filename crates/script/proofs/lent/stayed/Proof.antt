@@ -1,3 +1,4 @@
+-- `script::lent::stayed` is safe and ends.
 use borrow.Author.Needs.{needs}
 use Prim.Native.Nat.{_-_}
 use lib.ListN.{length}

@@ -1,3 +1,4 @@
+-- `script::numbers::below_zero` is safe: a number that an i64 holds has its opposite there.
 use Rattle.script.proofs.SignedLaws.{negated}
 use borrow.Author.Needs.{needs}
 use Rattle.script.proofs.numbers.below_zero.Statement.{statement}

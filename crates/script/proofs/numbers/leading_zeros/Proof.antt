@@ -1,3 +1,4 @@
+-- `script::numbers::leading_zeros` meets its contract: no more zeros than bytes.
 use borrow.Author.Needs.{needs}
 use Prim.Native.Nat.{_≤_, _-_}
 use lib.ListN.{length}

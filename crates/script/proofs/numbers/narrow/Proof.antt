@@ -1,3 +1,4 @@
+-- `script::numbers::narrow` is safe: what lies between an i32's ends is one.
 use mir.Syntax.{w64}
 use mir.Val.{toZ, ofZ}
 use Rattle.script.proofs.SignedLaws.{narrowed}

@@ -1,3 +1,4 @@
+-- `script::words::next` meets its contract: it goes from the place to the end at most.
 use borrow.Author.Needs.{needs}
 use Prim.Native.Nat.{_≤_, _-_}
 use lib.ListN.{length}

@@ -1,3 +1,4 @@
+-- `script::words::same` is safe and ends: the two have one length.
 use borrow.Author.Needs.{needs}
 use mathlib.Core.Path.{_≡_}
 use Prim.Native.Nat.{_-_}

@@ -1,3 +1,4 @@
+-- `script::words::words_of` is safe and ends: six words at most, each of which begins inside the line or at its end.
 use borrow.Author.Needs.{needs}
 use Prim.Native.Nat.{_≤_, _-_}
 use lib.ListN.{length}
