@@ -14,7 +14,8 @@ use Rattle.kmsg.specs.Prefix.{hasPrefix, prefixIn, afterPrefix, notKernel, with
 use Rattle.kmsg.specs.Write.{outsideRuling, boxRuling, writeBy, outsideWrite, boxWrite}
 use Rattle.kmsg.specs.Read.{lineAt, readRuling, readRefused, readDone, readBy, seekRuling, seekPlace, seekBy, seeking}
 use Rattle.kmsg.specs.Read.{reading as kmsgReading}
-use Rattle.syslog.specs.Command.{fromNumber, fromOffset, unreadRecords, unread, copied, onward, moved, sinceClear, lastOf, commandRuling, marksAfter, given, count, commandBy, commanding}
+use Rattle.forms.specs.Copy.{onward}
+use Rattle.syslog.specs.Command.{fromNumber, fromOffset, unreadRecords, unread, copied, moved, sinceClear, lastOf, commandRuling, marksAfter, given, count, commandBy, commanding}
 use Rattle.history.specs.Calls.{step, stateAfter}
 use Rattle.history.specs.Past.{firstHeld, held, pastWrite, pastStep, pastAfter, freshPast}
 use Rattle.message.specs.Message.{header, fields, field, body, lines, text, continuations, dictionary, isLong, isUnended, lacksHeader, lacksNumber, hasWrongByte, hasWrongEntry, isBulky, refusal, reading}
