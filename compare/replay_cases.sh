@@ -97,6 +97,11 @@ case_of 'T14 to T16' 'board 0\ndeliver 3133342c372c312c2d3b312d300a\ndeliver 313
 { echo log; many 70000 @ | sed 's/@/ab/g'; printf '\nlog\n-\nnumbers\n-77 0\n'; } >"$room/want"
 hand 'a peek at the largest buffer'
 
+# ---- the sample script of `make replay`
+cp samples/rehearsal.script "$room/in"
+cp samples/rehearsal.expected "$room/want"
+hand 'samples/rehearsal.script'
+
 # ---- scripts
 script 101 4000
 script 102 4000
