@@ -1,4 +1,5 @@
 // The log's calls, each made once and told in a line: a label, the call, what it answered. A line that is read stands as it is.
+use crate::say;
 use kmsg::Given;
 use kmsg::Reader;
 use log::Answer;

@@ -4,6 +4,7 @@ mod calls;
 mod moments;
 mod received;
 mod refusals;
+mod say;
 
 fn main() {
     moments::all();

@@ -1,4 +1,5 @@
 // T13 to T16: the moments of the receiving end, on the real calls; and each of its refusals once.
+use crate::say;
 use board::Answer;
 use board::Board;
 use board::Shown;

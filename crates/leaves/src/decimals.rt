@@ -1,4 +1,5 @@
 // Plain decimal: document 01's numbers, and those at the edge of 64 bits.
+use crate::say;
 use number::Decimal;
 
 // A number as it is printed.

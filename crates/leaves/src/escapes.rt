@@ -1,4 +1,5 @@
 // The \x form: T9, and every byte written and read back.
+use crate::say;
 use escape::Unescaped;
 use slices::Placed;
 

@@ -2,6 +2,7 @@
 mod decimals;
 mod escapes;
 mod rings;
+mod say;
 
 fn main() {
     decimals::all();

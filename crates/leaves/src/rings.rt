@@ -1,4 +1,5 @@
 // A ring of seven bytes: three bytes put and read at every place of it, behind every number of used ones.
+use crate::say;
 use ring::Place;
 use slices::Placed;
 ghost use Prim.Native.Nat.{_<_, _≤_};

@@ -1,15 +1,15 @@
 // The script's lines, taken from chunks of input: each is answered by one line on standard output.
+use crate::answer;
+use crate::log_calls;
+use crate::log_state;
+use crate::log_state::LogState;
+use crate::log_state::LogTold;
 use crate::receiving;
 use crate::receiving::BoardState;
+use crate::words;
+use crate::words::Words;
 use libc::STDIN_FILENO;
 use libc::STDOUT_FILENO;
-use rehearsal::log_calls;
-use rehearsal::log_state;
-use rehearsal::log_state::LogState;
-use rehearsal::log_state::LogTold;
-use script::answer;
-use script::words;
-use script::words::Words;
 use slices::Placed;
 
 // The longest line of a script.

@@ -1,18 +1,18 @@
 // The script's calls on the receiving end: the board, the line reader and the console question.
+use crate::answer;
+use crate::hex;
+use crate::hex::Hex;
+use crate::lent;
+use crate::numbers;
+use crate::numbers::Int;
+use crate::numbers::Num;
+use crate::words;
+use crate::words::Words;
 use board::Answer;
 use board::Board;
 use board::Shown;
 use board::Slot;
 use number::Loaded;
-use script::answer;
-use script::hex;
-use script::hex::Hex;
-use script::lent;
-use script::numbers;
-use script::numbers::Int;
-use script::numbers::Num;
-use script::words;
-use script::words::Words;
 
 // The channels of the eight slots.
 const CHANNEL_FIRST: u64 = 16;
