@@ -164,12 +164,6 @@ fn load(s: &[u8], at: usize, width: usize) -> Loaded
     Loaded::Number(n)
 }
 
-pub fn load_u16(s: &[u8], at: usize) -> Loaded
-    ensures { λ r. ⌜ r ≡ loaded 2 (now (s .entry)) at ⌝ }
-{
-    load(s, at, 2)
-}
-
 pub fn load_u64(s: &[u8], at: usize) -> Loaded
     ensures { λ r. ⌜ r ≡ loaded 8 (now (s .entry)) at ⌝ }
 {
@@ -191,12 +185,6 @@ fn store(value: u64, out: &mut [u8], at: usize, width: usize) -> Placed
         i += 1;
     }
     Placed::End(at + i)
-}
-
-pub fn store_u16(value: u16, out: &mut [u8], at: usize) -> Placed
-    ensures { λ r. ⌜ left r (now (out .exit)) ≡ placed (now (out .entry)) at (littleEndian 2 value) ⌝ }
-{
-    store(value as u64, out, at, 2)
 }
 
 pub fn store_u64(value: u64, out: &mut [u8], at: usize) -> Placed
