@@ -16,7 +16,7 @@ use Rattle.log.specs.declared.Log.{Log}
 use Rattle.log.specs.declared.Refusal.{Refusal}
 use Rattle.log.specs.declared.Refusal.the-variants.{EBADFD, EPERM, ESPIPE, EINVAL, EFAULT, EOVERFLOW, EPIPE, EAGAIN}
 use Rattle.log.specs.declared.Answer.the-variants.{Done, No}
-use Rattle.kmsg.specs.Write.{writeBy, outsideWrite, boxWrite}
+use Rattle.writes.specs.Write.{writeBy, outsideWrite, boxWrite}
 use Rattle.kmsg.specs.Read.{AfterRead, readRefused, readDone, readBy, reading, seekRuling, seekBy, seeking}
 use Rattle.kmsg.specs.declared.Sought.{Sought}
 use Rattle.syslog.specs.Command.{commandBy, commanding}

@@ -20,8 +20,7 @@ use Rattle.log.specs.declared.Answer.the-variants.{Done}
 use Rattle.log.proofs.StoredLaws.{Storable}
 use Rattle.log.proofs.HoldsLaws.{Holds, goes, grown, dropped-is, length-written, holds-written, written-view}
 use Rattle.log.proofs.MarkLaws.{fine}
-use Rattle.kmsg.specs.Prefix.{outsideRecord, boxRecord}
-use Rattle.kmsg.specs.Write.{outsideRuling, boxRuling, writeBy, outsideWrite, boxWrite}
+use Rattle.writes.specs.Write.{outsideRecord, boxRecord, outsideRuling, boxRuling, writeBy, outsideWrite, boxWrite}
 use Rattle.kmsg.specs.Read.{readerAt, readRuling, readBy, reading, seekRuling, seekBy, seeking}
 use Rattle.syslog.specs.Command.{OnView, onLog, commandRuling, commandBy, commanding}
 use Rattle.history.specs.Calls.{Call, outside, box, make, place, read, seek, command, check, console, Reply, wrote, made, verdict, nobody, State, Stepped, stepped, withReaders, afterWrite, replyRead, replySeek, afterCommand, ifThere, step, run, stateAfter}

@@ -10,9 +10,8 @@ use Rattle.record.specs.Record.{Record, cost}
 use Rattle.log.specs.Answer.{Ruling, allowed, refused}
 use Rattle.log.proofs.ExcessLaws.{excess-few}
 use Rattle.log.proofs.HoldsLaws.{goes}
-use Rattle.kmsg.specs.Prefix.{outsideRecord, boxRecord}
-use Rattle.kmsg.specs.Write.{outsideRuling, boxRuling}
-use Rattle.kmsg.proofs.StorableLaws.{outside-payload, box-payload}
+use Rattle.writes.specs.Write.{outsideRecord, boxRecord, outsideRuling, boxRuling}
+use Rattle.writes.proofs.StorableLaws.{outside-payload, box-payload}
 use Rattle.history.specs.Calls.{outside, box, make, place, read, seek, command, check, console, ifThere}
 use Rattle.history.specs.Past.{Past, firstHeld, held, Told, nextNumber, pastWrite, pastStep}
 use Rattle.history.specs.Readers.{droppedMost, FewDropped, DropsFew}

@@ -17,8 +17,7 @@ use Rattle.log.specs.View.{nextOf, recordAt, noRecord}
 use Rattle.log.specs.declared.Refusal.{Refusal}
 use Rattle.log.specs.declared.Refusal.the-variants.{EBADFD, EINVAL, EPIPE, EAGAIN}
 use Rattle.log.specs.declared.Answer.the-variants.{Done, No}
-use Rattle.kmsg.specs.Prefix.{outsideRecord, boxRecord}
-use Rattle.kmsg.specs.Write.{outsideRuling, boxRuling}
+use Rattle.writes.specs.Write.{outsideRecord, boxRecord, outsideRuling, boxRuling}
 use Rattle.kmsg.specs.Read.{readerAt, AfterRead, lineAt, readRuling, stay, readRefused, readDone, readBy, seekRuling, seekBy}
 use Rattle.history.specs.Calls.{Call, outside, box, make, place, read, seek, command, check, console, Reply, nobody, replyRead, replySeek, ifThere}
 use Rattle.history.specs.Past.{Past, firstHeld, held, Told, telling, readersAt, nextNumber, pastWrite, pastRead, pastStep, pastRun, pastAfter}

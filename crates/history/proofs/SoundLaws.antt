@@ -18,9 +18,8 @@ use Rattle.log.proofs.ExcessLaws.{excess-some}
 use Rattle.log.proofs.StoredLaws.{Storable, Numbered, numbered-drop, numbered-append, numbered-at}
 use Rattle.log.proofs.HoldsLaws.{goes}
 use Rattle.log.proofs.MarkLaws.{Marked, marked-grown}
-use Rattle.kmsg.specs.Prefix.{outsideRecord, boxRecord}
-use Rattle.kmsg.specs.Write.{outsideRuling, boxRuling}
-use Rattle.kmsg.proofs.StorableLaws.{outside-storable, outside-next, box-storable, box-next}
+use Rattle.writes.specs.Write.{outsideRecord, boxRecord, outsideRuling, boxRuling}
+use Rattle.writes.proofs.StorableLaws.{outside-storable, outside-next, box-storable, box-next}
 use Rattle.syslog.specs.Command.{commandRuling, marksAfter, commandBy}
 use Rattle.syslog.specs.declared.Asked.{Asked}
 use Rattle.syslog.proofs.CommandLaws.{withViewMarks, command-marked, command-on}

@@ -10,8 +10,8 @@ use Rattle.record.specs.Forms.{kmsgEntries, kmsgHeader, kmsgLine, syslogForm, s
 use Rattle.log.specs.View.{nextOf, recordAt}
 use Rattle.log.specs.Check.{numbersFit, dictionaryBytes, recordFits, after, recordOf, skipped, walked, recordsIn, offsetFits, finished, checked, marksOf, viewOf, withMarks, ruled}
 use Rattle.log.specs.Write.{excess, droppedBy, keptBy, writtenLog, writtenBuffer}
-use Rattle.kmsg.specs.Prefix.{hasPrefix, prefixIn, afterPrefix, notKernel, withoutNewline, outsideRecord, boxRecord}
-use Rattle.kmsg.specs.Write.{outsideRuling, boxRuling, writeBy, outsideWrite, boxWrite}
+use Rattle.front.specs.Prefix.{hasPrefix, prefixIn, afterPrefix, notKernel, withoutNewline}
+use Rattle.writes.specs.Write.{outsideRecord, boxRecord, outsideRuling, boxRuling, writeBy, outsideWrite, boxWrite}
 use Rattle.kmsg.specs.Read.{lineAt, readRuling, readRefused, readDone, readBy, seekRuling, seekPlace, seekBy, seeking}
 use Rattle.kmsg.specs.Read.{reading as kmsgReading}
 use Rattle.forms.specs.Copy.{onward}
