@@ -1,11 +1,12 @@
 // Bytes as lower-case hex digits, and back; `-` stands for no bytes.
+use crate::answers;
+use crate::lent;
+use crate::words::Bytes;
+ghost use Prim.Native.Nat.{_<_};
 
-use crate::answer;
-ghost use Prim.Native.Nat.{_+_, _<_, _≤_};
-ghost use lib.ListN.{length};
-
+// Where the bytes end that a word spells.
 pub enum Hex {
-    Bytes(usize),
+    End(usize),
     No,
 }
 
@@ -32,16 +33,19 @@ fn pair_of(high: u8, low: u8) -> Pair {
     Pair::No
 }
 
-// The bytes that a word spells, put at the front of a buffer; and how many they are.
-pub fn read(word: &[u8], out: &mut [u8]) -> Hex {
+// The bytes that a word spells, put at a place.
+pub fn read(word: &[u8], out: &mut Bytes, at: usize) -> Hex {
     if is_dash(word) {
-        return Hex::Bytes(0);
+        return Hex::End(at);
     }
     let n = word.len() / 2;
     if (n == 0) | (word.len() % 2 != 0) {
         return Hex::No;
     }
-    if out.len() < n {
+    if out.len() < at {
+        return Hex::No;
+    }
+    if out.len() - at < n {
         return Hex::No;
     }
     let mut i = 0;
@@ -49,10 +53,10 @@ pub fn read(word: &[u8], out: &mut [u8]) -> Hex {
         let Pair::Byte(b) = pair_of(word[2 * i], word[2 * i + 1]) else {
             return Hex::No;
         };
-        out[i] = b;
+        out[at + i] = b;
         i += 1;
     }
-    Hex::Bytes(n)
+    Hex::End(at + n)
 }
 
 fn digit(n: u8) -> u8
@@ -61,29 +65,41 @@ fn digit(n: u8) -> u8
     if n < 10 { b'0' + n } else { b'a' + (n - 10) }
 }
 
-// The two digits of a byte, put at a place.
-fn write_byte(b: u8, out: &mut [u8], at: usize)
-    requires { ⌜ at + 2 ≤ length (now out) ⌝ }
-{
-    out[at] = digit(b / 16);
-    out[at + 1] = digit(b % 16);
+// The digits of the k-th of 500 bytes.
+fn put(b: u8, out: &mut [u8; 1000], k: usize) {
+    if k < 500 {
+        out[2 * k] = digit(b / 16);
+        out[2 * k + 1] = digit(b % 16);
+    }
 }
 
-// Bytes put at a place of a buffer as hex; the place behind.
-pub fn write(bytes: &[u8], out: &mut [u8], at: usize) -> usize {
+fn say(digits: &[u8; 1000], count: usize) {
+    answers::say(slices::front(digits, count));
+}
+
+// At most 500 bytes as hex on standard output.
+fn print_some(bytes: &[u8]) {
+    let mut out = [0u8; 1000];
+    let mut k = 0;
+    while k < 500 {
+        if bytes.len() <= k {
+            break;
+        }
+        put(bytes[k], &mut out, k);
+        k += 1;
+    }
+    say(&out, 2 * k);
+}
+
+// Bytes as hex on standard output, some after the other: the space has no more than 600 times 500.
+pub fn print(bytes: &[u8]) {
     if bytes.len() == 0 {
-        return answer::text(b"-", out, at);
+        answers::say(b"-");
+        return;
     }
-    if out.len() < at {
-        return at;
+    let mut from = 0;
+    while from < 300000 {
+        print_some(lent::part(bytes, from, 500));
+        from += 500;
     }
-    if (out.len() - at) / 2 < bytes.len() {
-        return at;
-    }
-    let mut i = 0;
-    while i < bytes.len() {
-        write_byte(bytes[i], out, at + 2 * i);
-        i += 1;
-    }
-    at + 2 * i
 }

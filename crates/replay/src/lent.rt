@@ -1,7 +1,12 @@
-// Lent buffers: their bytes before a call, and whether those stayed that should have.
+// Lent buffers: parts of them, their bytes before a call, and whether those stayed that should have.
+use log::Answer;
+ghost use Prim.Native.Nat.{_≤_};
 
 // A lent buffer is filled with this before a call.
 pub const FILL: u8 = 165;
+
+// Room for the longest buffer that a line lends, and for what is told of other buffers.
+pub type Space = [u8; 300000];
 
 pub fn fill(buffer: &mut [u8], b: u8) {
     let mut i = 0;
@@ -23,12 +28,75 @@ pub fn stayed(buffer: &[u8], from: usize) -> bool {
     true
 }
 
+// The bytes from one place to another, as far as they lie inside.
+pub fn between(buffer: &[u8], from: usize, to: usize) -> &[u8] {
+    if buffer.len() <= from {
+        return slices::front(buffer, 0);
+    }
+    if to <= from {
+        return slices::front(buffer, 0);
+    }
+    slices::front(&buffer[from..], to - from)
+}
+
 // The bytes from a place on, so many at most.
 pub fn part(buffer: &[u8], from: usize, most: usize) -> &[u8] {
     if buffer.len() <= from {
         return slices::front(buffer, 0);
     }
     slices::front(&buffer[from..], most)
+}
+
+// The smaller of two lengths.
+pub fn least(a: usize, b: usize) -> usize
+    ensures { λ r. ⌜ r ≤ b ⌝ }
+{
+    if a < b { a } else { b }
+}
+
+// The byte at a place; 0 past the end.
+pub fn byte(s: &[u8], at: usize) -> u8 {
+    if at < s.len() { s[at] } else { 0 }
+}
+
+// Where a byte stands next, from a place on; the end, if it stands nowhere.
+pub fn next(s: &[u8], from: usize, c: u8) -> usize {
+    let mut i = from;
+    while i < s.len() {
+        if s[i] == c {
+            return i;
+        }
+        i += 1;
+    }
+    i
+}
+
+// Bytes put from a place on, as far as the buffer reaches.
+pub fn put(bytes: &[u8], buffer: &mut [u8], place: usize) {
+    if place < buffer.len() {
+        let room = buffer.len() - place;
+        slices::copy(slices::front(bytes, room), buffer, place);
+    }
+}
+
+// How many bytes of a lent buffer an answer of the log counts.
+pub fn counted(answer: Answer) -> usize {
+    match answer {
+        Answer::Done(n) => n as usize,
+        Answer::No(_) => 0,
+    }
+}
+
+// From one place of a ring on to another: so many bytes.
+pub fn distance(from: usize, to: usize, capacity: usize) -> usize {
+    if from <= to {
+        return to - from;
+    }
+    if capacity < from {
+        return 0;
+    }
+    let before_end = capacity - from;
+    if to < capacity { before_end + to } else { 0 }
 }
 
 // A place of a ring lies among so many bytes from another place on.

@@ -1,214 +1,157 @@
-// The script's lines, taken from chunks of input: each is answered by one line on standard output.
-use crate::answer;
+// The script's lines, one after the other: each is answered by one line on standard output.
+use crate::answers;
+use crate::answers::Told;
+use crate::board_calls;
+use crate::board_calls::Slots;
+use crate::command_calls;
+use crate::input;
+use crate::input::Chunk;
+use crate::input::Line;
+use crate::input::Unread;
+use crate::lent;
+use crate::lent::Space;
 use crate::log_calls;
-use crate::log_state;
-use crate::log_state::LogState;
-use crate::log_state::LogTold;
-use crate::receiving;
-use crate::receiving::BoardState;
-use crate::words;
+use crate::log_calls::Buffer;
+use crate::reader_calls;
+use crate::renderer_calls;
+use crate::state;
+use crate::state::Called;
+use crate::state::State;
+use crate::vocabulary;
+use crate::vocabulary::Reading;
+use crate::words::Bytes;
 use crate::words::Words;
-use libc::STDIN_FILENO;
-use libc::STDOUT_FILENO;
-use slices::Placed;
+use crate::write_calls;
 
-// The longest line of a script.
-const LINE_MOST: usize = 40000;
+// ---- calls on a log
 
-// The log, the board, and how many bytes of a line have come: one more than the longest, if there were more.
-pub struct State {
-    pub log: LogState,
-    pub board: BoardState,
-    pub have: usize,
+// A call that changes none of the log's bytes.
+fn reading(state: State, words: Words, ring: &[u8], lent: &mut [u8]) -> Called {
+    let family = words.family;
+    match family {
+        b'r' => reader_calls::call(state, words, ring, lent),
+        _ => command_calls::call(state, words, ring, lent),
+    }
 }
 
-// The state after a read, and whether the input goes on.
-struct Turn {
+// It is lent a buffer of the caller's, filled before, which has to stay behind the bytes that the answer counts.
+fn with_lent(state: State, words: Words, ring: &[u8], lent: &mut [u8]) -> Called {
+    lent::fill(lent, lent::FILL);
+    let called = reading(state, words, ring, lent);
+    let told = called.told;
+    let after = called.state;
+    state::left(after, told.marked(lent::stayed(lent, told.to)))
+}
+
+fn in_space(state: State, words: Words, ring: &[u8], space: &mut [u8]) -> Called {
+    let length = lent::least(words.lent, space.len());
+    with_lent(state, words, ring, &mut space[..length])
+}
+
+// The ring is the log's buffer, as long as its capacity.
+fn on_ring(
     state: State,
-    more: bool,
-}
-
-impl State {
-    pub fn new() -> Self {
-        State {
-            log: LogState::new(),
-            board: BoardState::new(),
-            have: 0,
-        }
-    }
-}
-
-// A call on a log that is there: its buffer is as long as the log's capacity.
-fn on_made(
-    line: &[u8],
     words: Words,
-    state: LogState,
-    buffer: &mut [u8],
-    out: &mut [u8],
-) -> LogTold {
-    let capacity = state.capacity;
-    if buffer.len() < capacity {
-        return log_state::no_call(state);
+    bytes: &Bytes,
+    ring: &mut [u8],
+    space: &mut Space,
+) -> Called {
+    let family = words.family;
+    match family {
+        b'l' => log_calls::call(state, words, bytes, ring, space),
+        b'n' => log_calls::set_number(state, words),
+        b'w' => write_calls::call(state, words, bytes, ring),
+        _ => in_space(state, words, ring, space),
     }
-    log_calls::on_log(line, words, state, &mut buffer[..capacity], out)
 }
 
-// A call on the log. Only the first needs none to be there.
-fn log_answer(
-    line: &[u8],
+fn in_buffer(
+    state: State,
     words: Words,
-    state: LogState,
+    bytes: &Bytes,
     buffer: &mut [u8],
-    out: &mut [u8],
-) -> LogTold {
-    if words::is_call(line, words, b"log", 3) {
-        return log_calls::fresh(line, words, state, buffer, out);
-    }
-    if !state.made {
-        return log_state::no_call(state);
-    }
-    on_made(line, words, state, buffer, out)
+    space: &mut Space,
+) -> Called {
+    let capacity = lent::least(state.capacity, buffer.len());
+    on_ring(state, words, bytes, &mut buffer[..capacity], space)
 }
 
-// Writes an answer and its newline; `?` for a line that is no call.
-fn write_answer(end: usize, out: &mut [u8]) {
-    if end == 0 {
-        io::write_all(STDOUT_FILENO, b"?\n");
-        return;
+// Only the call that makes a log needs none to be there.
+fn on_log(
+    state: State,
+    words: Words,
+    bytes: &Bytes,
+    buffer: &mut Buffer,
+    space: &mut Space,
+) -> Called {
+    if (words.family == b'l') & (words.row == b'0') {
+        return log_calls::fresh(state, words, buffer);
     }
-    let whole = answer::text(b"\n", out, end);
-    io::write_all(STDOUT_FILENO, slices::front(out, whole));
+    if state.has_log {
+        return in_buffer(state, words, bytes, buffer, space);
+    }
+    state::left(state, Told::no_call())
 }
 
-// Answers one line.
+// ---- lines
+
+fn call(
+    state: State,
+    words: Words,
+    bytes: &Bytes,
+    buffer: &mut Buffer,
+    slots: &mut Slots,
+    space: &mut Space,
+) -> Called {
+    let family = words.family;
+    match family {
+        b'b' => board_calls::call(state, words, bytes, slots, space),
+        b'q' => state::left(state, renderer_calls::call(words, bytes, space)),
+        _ => on_log(state, words, bytes, buffer, space),
+    }
+}
+
 fn answer_line(
     state: State,
     line: &[u8],
-    buffer: &mut [u8],
-    slots: &mut [u8],
-    out: &mut [u8],
+    bytes: &mut Bytes,
+    buffer: &mut Buffer,
+    slots: &mut Slots,
+    space: &mut Space,
 ) -> State {
-    let log_state = state.log;
-    let board_state = state.board;
-    let words = words::words_of(line);
-    let told = log_answer(line, words, log_state, buffer, out);
-    let log = told.state;
-    if told.end != 0 {
-        write_answer(told.end, out);
-        return State {
-            log,
-            board: board_state,
-            have: 0,
-        };
-    }
-    let shown = receiving::answer(line, words, board_state, slots, out);
-    let board = shown.state;
-    write_answer(shown.end, out);
-    State {
-        log,
-        board,
-        have: 0,
-    }
-}
-
-// A line that has come whole; one that is too long is no call.
-fn end_line(
-    state: State,
-    line: &[u8],
-    buffer: &mut [u8],
-    slots: &mut [u8],
-    out: &mut [u8],
-) -> State {
-    let have = state.have;
-    if LINE_MOST < have {
-        let log = state.log;
-        let board = state.board;
-        write_answer(0, out);
-        return State {
-            log,
-            board,
-            have: 0,
-        };
-    }
-    answer_line(state, slices::front(line, have), buffer, slots, out)
-}
-
-// A piece of a line put behind what has come of it.
-fn with_piece(state: State, piece: &[u8], line: &mut [u8]) -> State {
-    let have = match slices::copy(piece, line, state.have) {
-        Placed::End(end) => end,
-        Placed::NoRoom => LINE_MOST + 1,
+    let Reading::Words(words) = vocabulary::read(line, bytes) else {
+        answers::unknown();
+        return state;
     };
-    let log = state.log;
-    let board = state.board;
-    State { log, board, have }
+    let called = call(state, words, bytes, buffer, slots, space);
+    let told = called.told;
+    answers::print(words, told, space);
+    called.state
 }
 
-// The lines of a chunk; the last may go on in the next one.
-fn answer_chunk(
-    before: State,
-    chunk: &[u8],
-    line: &mut [u8],
-    buffer: &mut [u8],
-    slots: &mut [u8],
-    out: &mut [u8],
-) -> State {
-    let mut state = before;
-    let mut from = 0;
-    while from < chunk.len() {
-        let end = words::next(chunk, from, b'\n');
-        state = with_piece(state, &chunk[from..end], line);
-        if chunk.len() <= end {
-            return state;
-        }
-        from = end + 1;
-        state = end_line(state, line, buffer, slots, out);
-    }
-    state
-}
-
-// Reads once and answers the lines that came.
-fn read_some(
-    state: State,
-    line: &mut [u8],
-    buffer: &mut [u8],
-    slots: &mut [u8],
-    out: &mut [u8],
-) -> Turn {
-    let mut chunk = io::large_buffer();
-    let got = libc::read(STDIN_FILENO, &mut chunk);
-    let n = io::count(got, &chunk);
-    if n == 0 {
-        return Turn { state, more: false };
-    }
-    let after = answer_chunk(state, &chunk[..n], line, buffer, slots, out);
-    Turn {
-        state: after,
-        more: true,
-    }
-}
-
-// Reads to the input's end. A proved loop has to end, and nothing says that the input does: so the turns are counted down.
-fn answer_input(line: &mut [u8], buffer: &mut [u8], slots: &mut [u8], out: &mut [u8]) -> State {
+// Answers every line of the input. A proved loop has to end, and nothing says that the input does: so the lines are counted down.
+pub fn run(
+    chunk: &mut Chunk,
+    line: &mut Line,
+    bytes: &mut Bytes,
+    buffer: &mut Buffer,
+    slots: &mut Slots,
+    space: &mut Space,
+) {
     let mut state = State::new();
-    let mut turns = u64::MAX;
-    while turns > 0 {
-        turns -= 1;
-        let turn = read_some(state, line, buffer, slots, out);
-        let after = turn.state;
-        if !turn.more {
-            return after;
+    let mut unread = Unread { from: 0, to: 0 };
+    let mut left = u64::MAX;
+    while left > 0 {
+        left -= 1;
+        let taken = input::next_line(unread, chunk, line);
+        unread = taken.unread;
+        if taken.ended & (taken.length == 0) {
+            return;
         }
-        state = after;
+        let whole = input::bytes_of(line, taken.length);
+        state = answer_line(state, whole, bytes, buffer, slots, space);
+        if taken.ended {
+            return;
+        }
     }
-    state
-}
-
-// Answers every line of the input, and a last one that lacks its newline.
-pub fn run(line: &mut [u8], buffer: &mut [u8], slots: &mut [u8], out: &mut [u8]) {
-    let state = answer_input(line, buffer, slots, out);
-    if state.have == 0 {
-        return;
-    }
-    end_line(state, line, buffer, slots, out);
 }

@@ -1,24 +1,33 @@
 // The rehearsal tool: a script of calls on standard input, and one line of answer for each on standard output.
-mod answer;
+mod answers;
+mod board_calls;
+mod command_calls;
+mod decimals;
 mod hex;
+mod input;
 mod lent;
 mod lines;
 mod log_calls;
-mod log_state;
-mod numbers;
-mod reads;
-mod receiving;
+mod reader_calls;
+mod renderer_calls;
+mod state;
+mod vocabulary;
 mod words;
-mod writes;
-
-use board::Board;
+mod write_calls;
 
 fn main() {
-    // One byte more than the longest line, to see one that is longer.
+    let mut chunk = io::large_buffer();
     let mut line = [0u8; 40001];
-    let mut buffer = [0u8; log_state::CAPACITY_MOST];
-    let mut slots = [0u8; Board::BUFFER];
-    // The longest answer is the log's whole buffer, two digits for each byte.
-    let mut out = [0u8; 150000];
-    lines::run(&mut line, &mut buffer, &mut slots, &mut out);
+    let mut bytes = [0u8; 20000];
+    let mut buffer = [0u8; 70000];
+    let mut slots = [0u8; 7680];
+    let mut space = [0u8; 300000];
+    lines::run(
+        &mut chunk,
+        &mut line,
+        &mut bytes,
+        &mut buffer,
+        &mut slots,
+        &mut space,
+    );
 }

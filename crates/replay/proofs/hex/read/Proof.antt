@@ -1,16 +1,15 @@
 -- `replay::hex::read` is safe and ends: two characters for each byte, and the buffer was measured for the bytes.
 use borrow.Author.Needs.{needs}
-use mathlib.Core.Path.{_≡_}
 use Prim.Native.Nat.{_≤_, _+_, _-_}
 use lib.ListN.{length}
 use Rattle.replay.proofs.hex.read.Statement.{statement}
 use Rattle.replay.proofs.hex.read.Tie as tie
 
 abbrev Inv-loop : tie.InvT-loop
-Inv-loop word out₀ n i₀ out i = (n + n ≤ length word) × (length out ≡ length out₀) × (n ≤ length out₀)
+Inv-loop word out₀ at n i₀ out i = (n + n ≤ length word) × (at + n ≤ 20000)
 
 abbrev μ-loop : tie.MeasureT-loop
-μ-loop word out₀ n i₀ out i = n - i
+μ-loop word out₀ at n i₀ out i = n - i
 
 is-dash-requires : tie.Need-is-dash-requires Inv-loop μ-loop
 is-dash-requires c κs = search needs
@@ -23,6 +22,9 @@ returns-2 c = search needs
 
 returns-3 : tie.Need-returns-3 Inv-loop μ-loop
 returns-3 c = search needs
+
+returns-4 : tie.Need-returns-4 Inv-loop μ-loop
+returns-4 c = search needs
 
 loop-holds : tie.Need-loop-holds Inv-loop μ-loop
 loop-holds c = search needs
@@ -51,14 +53,14 @@ enum-known-b c = search needs
 enum-told : tie.Need-enum-told Inv-loop μ-loop
 enum-told c = search needs
 
-same-length : tie.Need-same-length Inv-loop μ-loop
-same-length c = search needs
+returns-5 : tie.Need-returns-5 Inv-loop μ-loop
+returns-5 c = search needs
 
-returns-4 : tie.Need-returns-4 Inv-loop μ-loop
-returns-4 c = search needs
+add-out : tie.Need-add-out Inv-loop μ-loop
+add-out c = search needs
 
-slice-write-out : tie.Need-slice-write-out Inv-loop μ-loop
-slice-write-out c = search needs
+element-write-out : tie.Need-element-write-out Inv-loop μ-loop
+element-write-out c = search needs
 
 add-i : tie.Need-add-i Inv-loop μ-loop
 add-i c = search needs
@@ -69,11 +71,11 @@ loop-less c = search needs
 loop-again : tie.Need-loop-again Inv-loop μ-loop
 loop-again c = search needs
 
-same-length-2 : tie.Need-same-length-2 Inv-loop μ-loop
-same-length-2 c = search needs
+add-t10 : tie.Need-add-t10 Inv-loop μ-loop
+add-t10 c = search needs
 
-returns-5 : tie.Need-returns-5 Inv-loop μ-loop
-returns-5 c = search needs
+returns-6 : tie.Need-returns-6 Inv-loop μ-loop
+returns-6 c = search needs
 
 pub read-spec : {M : Type 1} → statement M
 read-spec =
@@ -85,6 +87,7 @@ read-spec =
     returns
     returns-2
     returns-3
+    returns-4
     loop-holds
     mul-pair-of
     shared-slice-read-pair-of
@@ -94,11 +97,11 @@ read-spec =
     pair-of-requires
     enum-known-b
     enum-told
-    same-length
-    returns-4
-    slice-write-out
+    returns-5
+    add-out
+    element-write-out
     add-i
     loop-less
     loop-again
-    same-length-2
-    returns-5)
+    add-t10
+    returns-6)

@@ -1,57 +1,63 @@
--- `replay::lines::run` is safe: the buffers keep their lengths.
+-- `replay::lines::run` is safe and ends: the lines are counted down.
+use native.Mathlib.Omega.{arith}
 use borrow.Author.Needs.{needs}
+use Prim.Native.Nat.{_≤_}
 use Rattle.replay.proofs.lines.run.Statement.{statement}
 use Rattle.replay.proofs.lines.run.Tie as tie
 
-answer-input-requires : tie.Need-answer-input-requires
-answer-input-requires c κs = search needs
+abbrev Inv-loop : tie.InvT-loop
+Inv-loop chunk₀ line₀ bytes₀ buffer₀ slots₀ space₀ state₀ unread₀ left₀ chunk line bytes buffer slots space state unread left = left ≤ 18446744073709551615
 
-same-length : tie.Need-same-length
-same-length c = search needs
+abbrev μ-loop : tie.MeasureT-loop
+μ-loop chunk₀ line₀ bytes₀ buffer₀ slots₀ space₀ state₀ unread₀ left₀ chunk line bytes buffer slots space state unread left = left
 
-same-length-2 : tie.Need-same-length-2
-same-length-2 c = search needs
+new-requires : tie.Need-new-requires Inv-loop μ-loop
+new-requires c κs = search needs
 
-same-length-3 : tie.Need-same-length-3
-same-length-3 c = search needs
+loop-holds : tie.Need-loop-holds Inv-loop μ-loop
+loop-holds c = search needs
 
-same-length-4 : tie.Need-same-length-4
-same-length-4 c = search needs
+sub-left : tie.Need-sub-left Inv-loop μ-loop
+sub-left c = search needs
 
-returns : tie.Need-returns
+next-line-requires : tie.Need-next-line-requires Inv-loop μ-loop
+next-line-requires c κs = search needs
+
+returns : tie.Need-returns Inv-loop μ-loop
 returns c = search needs
 
-end-line-requires : tie.Need-end-line-requires
-end-line-requires c κs = search needs
+bytes-of-requires : tie.Need-bytes-of-requires Inv-loop μ-loop
+bytes-of-requires c κs = search needs
 
-same-length-5 : tie.Need-same-length-5
-same-length-5 c = let back = c .before .before .before .before .before .before .before .before .before .before .before .before .before .before .before .before .before .before .before .before .line .given in search needs
+answer-line-requires : tie.Need-answer-line-requires Inv-loop μ-loop
+answer-line-requires c κs = search needs
 
-same-length-6 : tie.Need-same-length-6
-same-length-6 c = search needs
-
-same-length-7 : tie.Need-same-length-7
-same-length-7 c = search needs
-
-same-length-8 : tie.Need-same-length-8
-same-length-8 c = search needs
-
-returns-2 : tie.Need-returns-2
+returns-2 : tie.Need-returns-2 Inv-loop μ-loop
 returns-2 c = search needs
+
+loop-less : tie.Need-loop-less Inv-loop μ-loop
+loop-less c = omega (arith, c .before .before .before .before .before .before .before .before .before .before .before .before .before .before .before .loop-test .taken)
+
+loop-again : tie.Need-loop-again Inv-loop μ-loop
+loop-again c = omega (arith, c .before .before .before .before .before .before .before .before .before .before .before .before .before .before .before .loop-test .taken, c .before .before .before .before .before .before .before .before .before .before .before .before .before .before .before .before .loop .inv)
+
+returns-3 : tie.Need-returns-3 Inv-loop μ-loop
+returns-3 c = search needs
 
 pub run-spec : {M : Type 1} → statement M
 run-spec =
     tie.close
     (tie.spec
-    answer-input-requires
-    same-length
-    same-length-2
-    same-length-3
-    same-length-4
+    Inv-loop
+    μ-loop
+    new-requires
+    loop-holds
+    sub-left
+    next-line-requires
     returns
-    end-line-requires
-    same-length-5
-    same-length-6
-    same-length-7
-    same-length-8
-    returns-2)
+    bytes-of-requires
+    answer-line-requires
+    returns-2
+    loop-less
+    loop-again
+    returns-3)

@@ -1,0 +1,144 @@
+// The board of a rehearsal, and the script's calls on it.
+use crate::answers::Told;
+use crate::decimals;
+use crate::lent;
+use crate::lent::Space;
+use crate::state;
+use crate::state::Called;
+use crate::state::State;
+use crate::words;
+use crate::words::Bytes;
+use crate::words::Words;
+use board::Answer;
+use board::Board;
+use board::Shown;
+use board::Slot;
+
+// The board's buffer.
+pub type Slots = [u8; 7680];
+
+const SLOTS: usize = 8;
+
+// The channel of the first slot.
+const CHANNEL: u64 = 16;
+
+fn with_board(before: State, board: Board) -> State {
+    let mut state = before;
+    state.has_board = true;
+    state.board = board;
+    state
+}
+
+fn fresh(state: State, words: Words, slots: &mut Slots) -> Called {
+    lent::fill(slots, decimals::byte(words.n1));
+    state::left(with_board(state, Board::new()), Told::form(0))
+}
+
+fn answer_number(answer: Answer) -> u64 {
+    match answer {
+        Answer::Accepted => 0,
+        Answer::Refused(refusal) => refusal as u64,
+    }
+}
+
+fn same_shown(a: Shown, b: Shown) -> bool {
+    match a {
+        Shown::Nothing => match b {
+            Shown::Nothing => true,
+            Shown::Record(_) => false,
+        },
+        Shown::Record(x) => match b {
+            Shown::Nothing => false,
+            Shown::Record(y) => x.0 == y.0,
+        },
+    }
+}
+
+// A slot shows another record than it did.
+fn is_changed(was: Slot, slot: Slot) -> bool {
+    let before = was.shown;
+    let after = slot.shown;
+    !same_shown(before, after)
+}
+
+// Only a slot that shows another record now may change, and only in the bytes of its text.
+fn stayed(was: Board, board: Board, before: &[u8], after: &[u8]) -> bool {
+    let old_slots = was.slots;
+    let new_slots = board.slots;
+    let mut k = 0;
+    while k < SLOTS {
+        let old = old_slots[k];
+        let new = new_slots[k];
+        if is_changed(old, new) {
+            return lent::stayed_around(before, after, k * Board::TEXT, new.size);
+        }
+        k += 1;
+    }
+    lent::stayed_around(before, after, 0, 0)
+}
+
+fn deliver(state: State, words: Words, bytes: &Bytes, slots: &mut Slots) -> Called {
+    let was = state.board;
+    let mut before = [0u8; Board::BUFFER];
+    slices::copy(slots, &mut before, 0);
+    let delivered = board::deliver(was, slots, words::bytes_of(words.n1, words.m1, bytes));
+    let board = delivered.board;
+    let answer = delivered.answer;
+    let stayed = stayed(was, board, &before, slots);
+    let number = Told::number(answer_number(answer));
+    state::left(with_board(state, board), number.marked(stayed))
+}
+
+// What a slot shows, with so many bytes of text in the space.
+fn shown_told(slot: Slot, bytes: usize) -> Told {
+    let shown = slot.shown;
+    match shown {
+        Shown::Nothing => Told::number(slot.size as u64),
+        Shown::Record(number) => {
+            let mut told = Told::number(number.0);
+            told.meant = 1;
+            told.n1 = slot.size as u64;
+            told.with_bytes(bytes)
+        }
+    }
+}
+
+fn slot(board: Board, k: usize, buffer: &Slots, space: &mut Space) -> Told {
+    if SLOTS <= k {
+        return Told::no_call();
+    }
+    let slots = board.slots;
+    let slot = slots[k];
+    let text = lent::part(buffer, k * Board::TEXT, slot.size);
+    slices::copy(text, space, 0);
+    shown_told(slot, text.len())
+}
+
+// A channel's slot: no slot, for a channel below the first.
+fn slot_of(channel: u64) -> usize {
+    if channel < CHANNEL {
+        return SLOTS;
+    }
+    decimals::size(channel - CHANNEL, SLOTS)
+}
+
+pub fn call(
+    state: State,
+    words: Words,
+    bytes: &Bytes,
+    slots: &mut Slots,
+    space: &mut Space,
+) -> Called {
+    if words.row == b'0' {
+        return fresh(state, words, slots);
+    }
+    if !state.has_board {
+        return state::left(state, Told::no_call());
+    }
+    let board = state.board;
+    let row = words.row;
+    match row {
+        b'1' => deliver(state, words, bytes, slots),
+        _ => state::left(state, slot(board, slot_of(words.n1), slots, space)),
+    }
+}

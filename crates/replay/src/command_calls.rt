@@ -1,0 +1,39 @@
+// The script's syslog(2) commands. The log's buffer is lent to them as one that none of them can change.
+use crate::answers::Told;
+use crate::decimals;
+use crate::lent;
+use crate::state;
+use crate::state::Called;
+use crate::state::State;
+use crate::words;
+use crate::words::Words;
+use syslog::Asked;
+use syslog::Commanded;
+
+fn asked(words: Words) -> Asked {
+    Asked {
+        command: decimals::narrow(words::signed_of(words.n1, words.m1)),
+        len: decimals::narrow(words::signed_of(words.n2, words.m2)),
+        privilege: words.n3 == 1,
+        restriction: words.n4 == 1,
+    }
+}
+
+// What a command tells. Only commands 2 to 4 count bytes of the lent buffer.
+fn told(command: i32, commanded: Commanded) -> Told {
+    let answer = commanded.answer;
+    let told = Told::answer(log::answer_number(answer));
+    if (2 <= command) & (command <= 4) {
+        told.with_bytes(lent::counted(answer))
+    } else {
+        told
+    }
+}
+
+pub fn call(state: State, words: Words, ring: &[u8], lent: &mut [u8]) -> Called {
+    let log = state.log;
+    let asked = asked(words);
+    let commanded = syslog::command(log, ring, asked, lent);
+    let after = commanded.log;
+    state::left(state.with_log(after), told(asked.command, commanded))
+}

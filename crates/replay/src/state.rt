@@ -1,0 +1,49 @@
+// What a rehearsal keeps from line to line beside its buffers.
+use crate::answers::Told;
+use board::Board;
+use log::Log;
+
+pub struct State {
+    // a log was made, in a buffer of so many bytes
+    pub has_log: bool,
+    pub capacity: usize,
+    pub log: Log,
+    // the readers' numbers, and how many readers there are
+    pub readers: [u64; 16],
+    pub count: usize,
+    // a board was made
+    pub has_board: bool,
+    pub board: Board,
+}
+
+// What a call leaves, and what it tells.
+pub struct Called {
+    pub state: State,
+    pub told: Told,
+}
+
+impl State {
+    pub fn new() -> Self {
+        let log = Log::new();
+        let board = Board::new();
+        State {
+            has_log: false,
+            capacity: 0,
+            log,
+            readers: [0; 16],
+            count: 0,
+            has_board: false,
+            board,
+        }
+    }
+
+    pub fn with_log(self, log: Log) -> Self {
+        let mut state = self;
+        state.log = log;
+        state
+    }
+}
+
+pub fn left(state: State, told: Told) -> Called {
+    Called { state, told }
+}

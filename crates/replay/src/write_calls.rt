@@ -1,0 +1,79 @@
+// The script's writes, from outside and from the box.
+use crate::answers::Told;
+use crate::lent;
+use crate::state;
+use crate::state::Called;
+use crate::state::State;
+use crate::words;
+use crate::words::Bytes;
+use crate::words::Words;
+use log::Answer;
+use log::Log;
+use writes::Written;
+
+fn outside(log: Log, words: Words, bytes: &Bytes, ring: &mut [u8]) -> Written {
+    let handed = words::bytes_of(words.n2, words.m2, bytes);
+    writes::write_outside(log, ring, words.n1, handed)
+}
+
+fn from_box(log: Log, words: Words, bytes: &Bytes, ring: &mut [u8]) -> Written {
+    let text = words::bytes_of(words.n4, words.m4, bytes);
+    let dictionary = words::bytes_of(words.n5, words.m5, bytes);
+    let facility = words::unsigned_of(words.n1, words.m1);
+    let level = words::unsigned_of(words.n2, words.m2);
+    writes::write_box(log, ring, facility, level, words.n3, text, dictionary)
+}
+
+fn write(log: Log, words: Words, bytes: &Bytes, ring: &mut [u8]) -> Written {
+    let row = words.row;
+    match row {
+        b'0' => outside(log, words, bytes, ring),
+        _ => from_box(log, words, bytes, ring),
+    }
+}
+
+// The place behind the newest record.
+fn end_of(log: Log, capacity: usize) -> usize {
+    let start = log.start.0;
+    let used = log.used;
+    if capacity <= start {
+        return 0;
+    }
+    let before_end = capacity - start;
+    if used < before_end {
+        start + used
+    } else {
+        used - before_end
+    }
+}
+
+// Only a write that was done changes the log's buffer, and only in the bytes of its record, behind the newest one.
+fn stayed(was: Log, written: Written, before: &[u8], after: &[u8]) -> bool {
+    let log = written.log;
+    let answer = written.answer;
+    let from = end_of(was, after.len());
+    let to = end_of(log, after.len());
+    let cost = match answer {
+        Answer::Done(_) => lent::distance(from, to, after.len()),
+        Answer::No(_) => 0,
+    };
+    lent::stayed_around(before, after, from, cost)
+}
+
+// What a write tells.
+fn told(written: Written, stayed: bool) -> Told {
+    let answer = written.answer;
+    let mut told = Told::answer(log::answer_number(answer));
+    told.n1 = written.dropped;
+    told.marked(stayed)
+}
+
+pub fn call(state: State, words: Words, bytes: &Bytes, ring: &mut [u8]) -> Called {
+    let mut before = [0u8; 70000];
+    slices::copy(ring, &mut before, 0);
+    let was = state.log;
+    let written = write(was, words, bytes, ring);
+    let log = written.log;
+    let stayed = stayed(was, written, &before, ring);
+    state::left(state.with_log(log), told(written, stayed))
+}
