@@ -1,22 +1,25 @@
-# make test: the whole gate. make run: the board for a sample match, or for one's own input with INPUT=file.
-# make replay: a sample script of calls, or one's own with INPUT=file, and what the box would answer to each line.
-# All need nothing but the toolchain; the gate also wants cargo, for the second program.
+# `make` alone lists what there is. Nothing but the toolchain is needed; the gate also wants cargo, for the second program.
 
-.PHONY: test run replay
-test:
-	bash .ci/run
+.PHONY: help run replay test
+help:
+	@echo "make run                 the board after a sample match (samples/match.kmsg)"
+	@echo "make run INPUT=file      the board after one's own lines"
+	@echo "make replay              what a box answers to a sample script of calls (samples/rehearsal.script)"
+	@echo "make replay INPUT=file   the same for one's own script"
+	@echo "make test                the whole gate: every crate proved, every wrong program refused, every program run and compared; about 22 minutes on 2 cores"
+	@echo
+	@echo "README.md says what the calls are, docs/ARCHITECTURE.md where things stand."
 
 run: INPUT ?= samples/match.kmsg
 run:
-	@mkdir -p target
-	@echo "proving and building the receiver (its log: target/run.log)"
-	@rt check receiver >target/run.log 2>&1 || { tail -n 20 target/run.log; exit 1; }
+	@bash tools/proved receiver
 	@echo "the board after $(INPUT):"
 	@target/bin/receiver <"$(INPUT)"
 
 replay: INPUT ?= samples/rehearsal.script
 replay:
-	@mkdir -p target
-	@echo "proving and building the replay (its log: target/replay.log)" >&2
-	@rt check replay >target/replay.log 2>&1 || { tail -n 20 target/replay.log >&2; exit 1; }
+	@bash tools/proved replay
 	@target/bin/replay <"$(INPUT)"
+
+test:
+	bash .ci/run
