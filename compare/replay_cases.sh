@@ -85,13 +85,6 @@ case_of 'before a board' 'slot 16\ndeliver -\nline -\nboard 7\nslot 16\nslot 15\
 { echo log; for i in $(seq 0 15); do echo "reader $i"; done; printf '?\n0\n?\nlog\n?\n'; } >"$room/want"
 hand 'seventeen readers'
 
-# ---- T1 to T4, T11 and T14 to T16 of document 01
-case_of 'T1 to T4' 'log 1024 0\nreader\noutside 5000999 3c3133343e474f414c20686f6d652031\nread 0 5000\ncommand 9 0 1 0 0\ncommand 2 5 1 0 5\ncommand 9 0 1 0 0\ncommand 3 4 1 0 4\ncommand 5 0 1 0 0\ncommand 3 9 1 0 9\ncommand 9 0 1 0 0\n' 'log\nreader 0\n16 0\n25 0 3133342c302c353030302c2d3b474f414c20686f6d6520310a\n17 -\n5 3c3133343e\n12 -\n4 6520310a\n0 -\n0 -\n12 -\n'
-{ printf 'log 1024 165\nreader\n'; for i in $(seq 43); do echo 'outside 0 -'; done; printf 'numbers\nread 0 10\nread 0 9\nread 0 10\n'; } >"$room/in"
-{ printf 'log\nreader 0\n'; for i in $(seq 42); do echo '0 0'; done; printf '0 1\n24 1008 1 43 0 0 0 7\n-32 1 -\n-22 0 -\n10 0 31322c312c302c2d3b0a\n'; } >"$room/want"
-hand 'T11'
-case_of 'T14 to T16' 'board 0\ndeliver 3133342c372c312c2d3b312d300a\ndeliver 3133342c392c332c2d3b302d300a\ndeliver 3133342c382c322c2d3b312d300a\nslot 16\nline 3133342c382c322c2d3b312d300a\n' 'board\n0\n0\n10\n9 3 302d30\n0 134 8 2 0 312d30 -\n'
-
 # ---- the longest answers, and buffers of no size
 { printf 'log 70000 171\npeek 0 70000\nlog 0 7\npeek 0 9\ncheck\noutside 0 61\n'; } >"$room/in"
 { echo log; many 70000 @ | sed 's/@/ab/g'; printf '\nlog\n-\nnumbers\n-77 0\n'; } >"$room/want"

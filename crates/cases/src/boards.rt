@@ -17,20 +17,20 @@ fn showing(length: usize) -> Board {
     Board { slots }
 }
 
-// The channel 23 shows that still, and channel 16 nothing.
+// The number that a slot shows, or 0 for nothing, and its text's length are these.
+fn shows(slot: Slot, number: u64, length: usize) -> bool {
+    let shown = slot.shown;
+    let n = match shown {
+        Shown::Nothing => 0,
+        Shown::Record(n) => n.0,
+    };
+    (n == number) & (slot.size == length)
+}
+
+// Channel 16 shows nothing still, and channel 23 what it did.
 fn kept(board: Board, length: usize) -> bool {
     let slots = board.slots;
-    let first = slots[0];
-    let last = slots[7];
-    let first_shown = first.shown;
-    let last_shown = last.shown;
-    let Shown::Nothing = first_shown else {
-        return false;
-    };
-    let Shown::Record(number) = last_shown else {
-        return false;
-    };
-    (first.size == 0) & (number.0 == 9) & (last.size == length)
+    shows(slots[0], 0, 0) & shows(slots[7], 9, length)
 }
 
 fn number(answer: Answer) -> u32 {
@@ -41,45 +41,18 @@ fn number(answer: Answer) -> u32 {
 }
 
 // T14's message, for channel 16, delivered to such a board.
-fn deliver(case: &[u8], length: usize, buffer: &mut [u8]) {
+fn deliver(buffer: &mut [u8], length: usize) {
+    say::named(b"board, buffer ", buffer.len());
+    say::named(b", text length ", length);
     let t = board::deliver(showing(length), buffer, b"134,7,1,-;1-0\n");
     let answer = t.answer;
     let after = t.board;
-    say::line(
-        case,
-        number(answer),
-        say::stayed(buffer) & kept(after, length),
-    );
+    say::answer(number(answer), say::stayed(buffer) & kept(after, length));
 }
 
-pub fn room() {
-    deliver(
-        b"board, buffer 7680, a slot's text length 960: ",
-        960,
-        &mut [165u8; 7680],
-    );
-}
-
-pub fn short_buffer() {
-    deliver(
-        b"board, buffer 7679, a slot's text length 960: ",
-        960,
-        &mut [165u8; 7679],
-    );
-}
-
-pub fn long_buffer() {
-    deliver(
-        b"board, buffer 7681, a slot's text length 960: ",
-        960,
-        &mut [165u8; 7681],
-    );
-}
-
-pub fn long_text() {
-    deliver(
-        b"board, buffer 7680, a slot's text length 961: ",
-        961,
-        &mut [165u8; 7680],
-    );
+pub fn all() {
+    deliver(&mut [165u8; 7680], 960);
+    deliver(&mut [165u8; 7679], 960);
+    deliver(&mut [165u8; 7681], 960);
+    deliver(&mut [165u8; 7680], 961);
 }

@@ -5,12 +5,6 @@ mod lines;
 mod say;
 
 fn main() {
-    lines::room();
-    lines::short_result();
-    lines::short_numbers();
-    lines::long_numbers();
-    boards::room();
-    boards::short_buffer();
-    boards::long_buffer();
-    boards::long_text();
+    lines::all();
+    boards::all();
 }
