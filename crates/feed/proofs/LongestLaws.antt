@@ -16,7 +16,8 @@ use Rattle.number.proofs.DecimalLaws.{decimal-most}
 use Rattle.escape.specs.Escape.{kmsgBytes}
 use Rattle.escape.proofs.EscapeLaws.{kmsg-most}
 use Rattle.record.specs.Limits.{wordMost, prefixMost}
-use Rattle.message.specs.Message.{field, text, dictionary, isNumber, isLong, isUnended, lacksHeader, lacksNumber, hasWrongByte, hasWrongEntry, isBulky, refusal, reading}
+use Rattle.header.specs.Header.{field, isNumber, lacksHeader, lacksNumber}
+use Rattle.message.specs.Message.{text, dictionary, isLong, isUnended, hasWrongByte, hasWrongEntry, isBulky, refusal, reading}
 use Rattle.board.specs.Board.{State, channels, emptySlot, fresh, slot, slotSize, slotFits, lacksRoom, hasChannel, channel, isLate, boardRefusal, show, Delivered, deliver}
 use Rattle.board.specs.declared.Shown.{Shown}
 use Rattle.board.specs.declared.Shown.the-variants.{Nothing as nothing, Record as recordOf}

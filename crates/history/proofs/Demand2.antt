@@ -14,12 +14,13 @@ use Rattle.ring.specs.Ring.{unrolled}
 use Rattle.log.specs.Answer.{Ruling, allowed, refused}
 use Rattle.log.specs.View.{Marks, View, nextOf}
 use Rattle.log.specs.Check.{freshLog, recordsIn, checked, marksOf, viewOf, withMarks, ruled}
-use Rattle.log.specs.Write.{excess, droppedBy, writtenLog, writtenBuffer}
+use Rattle.log.specs.Excess.{excess}
+use Rattle.store.specs.Write.{droppedBy, writtenLog, writtenBuffer}
 use Rattle.log.specs.declared.Verdict.the-variants.{Fine}
 use Rattle.log.specs.declared.Answer.the-variants.{Done}
-use Rattle.log.proofs.StoredLaws.{Storable}
-use Rattle.log.proofs.HoldsLaws.{Holds, goes, grown, dropped-is, length-written, holds-written, written-view}
-use Rattle.log.proofs.MarkLaws.{fine}
+use Rattle.store.proofs.StoredLaws.{Storable}
+use Rattle.store.proofs.HoldsLaws.{Holds, goes, grown, dropped-is, length-written, holds-written, written-view}
+use Rattle.store.proofs.MarkLaws.{fine}
 use Rattle.writes.specs.Write.{outsideRecord, boxRecord, outsideRuling, boxRuling, writeBy, outsideWrite, boxWrite}
 use Rattle.kmsg.specs.Read.{readerAt, readRuling, readBy, reading, seekRuling, seekBy, seeking}
 use Rattle.syslog.specs.Command.{OnView, onLog, commandRuling, commandBy, commanding}

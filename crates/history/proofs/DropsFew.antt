@@ -9,7 +9,7 @@ use Rattle.record.specs.Limits.{capacityLeast, payloadMost}
 use Rattle.record.specs.Record.{Record, cost}
 use Rattle.log.specs.Answer.{Ruling, allowed, refused}
 use Rattle.log.proofs.ExcessLaws.{excess-few}
-use Rattle.log.proofs.HoldsLaws.{goes}
+use Rattle.store.proofs.HoldsLaws.{goes}
 use Rattle.writes.specs.Write.{outsideRecord, boxRecord, outsideRuling, boxRuling}
 use Rattle.writes.proofs.StorableLaws.{outside-payload, box-payload}
 use Rattle.history.specs.Calls.{outside, box, make, place, read, seek, command, check, console, ifThere}

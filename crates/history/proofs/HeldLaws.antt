@@ -8,7 +8,7 @@ use lib.Seq.{drop-drop, drop-append-le, getD-drop}
 use Rattle.record.specs.Record.{Record, cost}
 use Rattle.log.specs.View.{nextOf, recordAt, noRecord}
 use Rattle.log.proofs.ExcessLaws.{excess-some, excess-fits, excess-least, excess-twice, excess-append}
-use Rattle.log.proofs.HoldsLaws.{goes, grown}
+use Rattle.store.proofs.HoldsLaws.{goes, grown}
 use Rattle.history.specs.Past.{Past, firstHeld, held, accept}
 use Rattle.history.specs.Demand2.{HeldLongest}
 

@@ -13,11 +13,11 @@ use Rattle.record.specs.Limits.{capacityLeast, wordMost}
 use Rattle.record.specs.Record.{Record, cost}
 use Rattle.log.specs.Answer.{Ruling, allowed, refused}
 use Rattle.log.specs.View.{Marks, View, nextOf}
-use Rattle.log.specs.Write.{excess}
+use Rattle.log.specs.Excess.{excess}
 use Rattle.log.proofs.ExcessLaws.{excess-some}
-use Rattle.log.proofs.StoredLaws.{Storable, Numbered, numbered-drop, numbered-append, numbered-at}
-use Rattle.log.proofs.HoldsLaws.{goes}
-use Rattle.log.proofs.MarkLaws.{Marked, marked-grown}
+use Rattle.store.proofs.StoredLaws.{Storable, Numbered, numbered-drop, numbered-append, numbered-at}
+use Rattle.store.proofs.HoldsLaws.{goes}
+use Rattle.store.proofs.MarkLaws.{Marked, marked-grown}
 use Rattle.writes.specs.Write.{outsideRecord, boxRecord, outsideRuling, boxRuling}
 use Rattle.writes.proofs.StorableLaws.{outside-storable, outside-next, box-storable, box-next}
 use Rattle.syslog.specs.Command.{commandRuling, marksAfter, commandBy}

@@ -10,8 +10,8 @@ use lib.ListN.{length}
 use Rattle.slices.specs.Tests.{every}
 use Rattle.slices.proofs.Bools.{and-left, and-right, every-first, every-other}
 use Rattle.record.specs.Limits.{wordMost}
-use Rattle.log.specs.Write.{total}
-use Rattle.log.proofs.HoldsLaws.{used-is}
+use Rattle.log.specs.Excess.{total}
+use Rattle.store.proofs.HoldsLaws.{used-is}
 use Rattle.history.specs.Calls.{Call, outside, box, make, place, read, seek, command, check, console, State, step}
 use Rattle.history.specs.Past.{Past, firstHeld, held, pastStep, pastAfter, freshPast}
 use Rattle.history.specs.Demand2.{fresh, Timed, AllTimed}

@@ -9,7 +9,8 @@ use Rattle.ring.specs.Ring.{unrolled, wrapped, ringPut}
 use Rattle.record.specs.Forms.{kmsgEntries, kmsgHeader, kmsgLine, syslogForm, syslogForms, syslogLength}
 use Rattle.log.specs.View.{nextOf, recordAt}
 use Rattle.log.specs.Check.{numbersFit, dictionaryBytes, recordFits, after, recordOf, skipped, walked, recordsIn, offsetFits, finished, checked, marksOf, viewOf, withMarks, ruled}
-use Rattle.log.specs.Write.{excess, droppedBy, keptBy, writtenLog, writtenBuffer}
+use Rattle.log.specs.Excess.{excess}
+use Rattle.store.specs.Write.{droppedBy, keptBy, writtenLog, writtenBuffer}
 use Rattle.front.specs.Prefix.{hasPrefix, prefixIn, afterPrefix, notKernel, withoutNewline}
 use Rattle.writes.specs.Write.{outsideRecord, boxRecord, outsideRuling, boxRuling, writeBy, outsideWrite, boxWrite}
 use Rattle.kmsg.specs.Read.{lineAt, readRuling, readRefused, readDone, readBy, seekRuling, seekPlace, seekBy, seeking}
@@ -18,7 +19,8 @@ use Rattle.forms.specs.Copy.{onward}
 use Rattle.syslog.specs.Command.{fromNumber, fromOffset, unreadRecords, unread, copied, moved, sinceClear, lastOf, commandRuling, marksAfter, given, count, commandBy, commanding}
 use Rattle.history.specs.Calls.{step, stateAfter}
 use Rattle.history.specs.Past.{firstHeld, held, pastWrite, pastStep, pastAfter, freshPast}
-use Rattle.message.specs.Message.{header, fields, field, body, lines, text, continuations, dictionary, isLong, isUnended, lacksHeader, lacksNumber, hasWrongByte, hasWrongEntry, isBulky, refusal, reading}
+use Rattle.header.specs.Header.{header, fields, field, lacksHeader, lacksNumber}
+use Rattle.message.specs.Message.{body, lines, text, continuations, dictionary, isLong, isUnended, hasWrongByte, hasWrongEntry, isBulky, refusal, reading}
 use Rattle.message.specs.Line.{lineRefusal, readLine}
 use Rattle.board.specs.Board.{fresh, lacksRoom, boardRefusal, show, deliver}
 use Rattle.moments.specs.Case.{done, _and_}

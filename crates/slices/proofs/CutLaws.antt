@@ -1,14 +1,14 @@
 -- Cutting what was put together, and the place of the first cut.
 use Prim.Native.Nat.{ℕ, zero, suc, _+_, _-_, _≤_, _<_}
 use mathlib.Core.Path.{_≡_, refl, ap, sym, _∙_}
-use mathlib.Core.Bool.{Bool, true, false, _&&_, _||_, not, cond, true≢false}
+use mathlib.Core.Bool.{Bool, true, false, _&&_, _||_, not, cond, true≢false, false≢true}
 use mathlib.Core.List.{List, [], _∷_, _++_, append-assoc, append-nil}
 use native.Mathlib.Omega.{arith}
 use lib.Dec.{eqb, ltb}
 use native.Mathlib.Numerals.{add-one}
 use native.Mathlib.Nat.{add-zero, zero-add, add-assoc}
 use lib.ListN.{length, getD, take, drop, drop-of-length-le, length-drop}
-use lib.Seq.{drop-cons, take-all, take-nil, drop-length}
+use lib.Seq.{drop-cons, take-all, take-take, take-nil, drop-length}
 use borrow.Author.Tests.{eq-eqb, ne-eqb, eqb-true, le-ltb, lt-ltb, ltb-true, ltb-false}
 use Rattle.slices.specs.declared.Found.the-variants.{At, Nowhere}
 use Rattle.slices.specs.Cut.{has, before, after, onFirst, pieces, parts, join, place}
@@ -137,3 +137,35 @@ has-append c (x ∷ xs) ys = go (eqb x c) (has-append c xs ys)
     go : (t : Bool) → has c (xs ++ ys) ≡ has c xs || has c ys → t || has c (xs ++ ys) ≡ (t || has c xs) || has c ys
     go true e = refl
     go false e = e
+
+-- ---- two cuts, one inside the other
+
+-- the first c lies before the first k
+pub record Inner (c k : ℕ) (s : List ℕ) : Type 0 where
+  pub front : before c (before k s) ≡ before c s
+  pub rest : after c (before k s) ≡ before k (after c s)
+  pub there : has c s ≡ true
+  pub behind : has k (after c s) ≡ has k s
+
+pub inner : (c k : ℕ) (s : List ℕ) → has c (before k s) ≡ true → Inner c k s
+inner c k [] h = absurd (false≢true h)
+inner c k (x ∷ xs) h = go (eqb x k) refl (eqb x c) refl h (inner c k xs)
+  where
+    go : (q : Bool) → eqb x k ≡ q → (p : Bool) → eqb x c ≡ p → has c (cond q [] (x ∷ before k xs)) ≡ true
+        → (has c (before k xs) ≡ true → Inner c k xs) → Inner c k (x ∷ xs)
+    go true f p e h ih = absurd (false≢true h)
+    go false f true e h ih = record { front = rw (f, e); rest = rw (f, e); there = rw e; behind = rw (f, e) }
+    go false f false e h ih =
+        let i : Inner c k xs = ih (rw e at h) in
+        record {
+          front = rw (f, e) (ap (λ (l : List ℕ). x ∷ l) (i .front));
+          rest = rw (f, e) (i .rest);
+          there = rw e (i .there);
+          behind = rw (f, e) (i .behind);
+        }
+
+-- what is in front of c in a front of s is a front of s
+pub front-before : (c : ℕ) (s u : List ℕ) → take (length u) s ≡ u → take (length (before c u)) s ≡ before c u
+front-before c s u e =
+    let k : take (length (before c u)) (take (length u) s) ≡ take (length (before c u)) s = take-take (length (before c u)) (length u) s (before-le c u) in
+    sym k ∙ ap (take (length (before c u))) e ∙ before-take c u
