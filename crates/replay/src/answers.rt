@@ -10,7 +10,7 @@ use libc::STDOUT_FILENO;
 const WORDS: usize = 16;
 
 // What a call tells: which form of its answer is meant; its numbers, in the form's order, and whether the first is negative; where its bytes begin and
-// end in the space; how many bytes of the lent buffer it counts; and whether every byte stayed that should have.
+// end in the space, which are those of the lent buffer that it counts; and whether every other byte stayed that should have.
 pub struct Told {
     pub meant: usize,
     pub negative: bool,
@@ -67,6 +67,13 @@ impl Told {
     pub fn answer(n: i64) -> Self {
         let mut told = Told::number(decimals::magnitude(n));
         told.negative = n < 0;
+        told
+    }
+
+    // In another form than the first.
+    pub fn meaning(self, meant: usize) -> Self {
+        let mut told = self;
+        told.meant = meant;
         told
     }
 
@@ -198,6 +205,11 @@ fn end(stayed: bool) {
     }
 }
 
+// Of the lent buffer every byte behind those that the answer counts is as it was before the call, and so is every other that should be.
+fn stayed(words: Words, told: Told, space: &[u8]) -> bool {
+    told.stayed & lent::stayed(lent::between(space, told.to, words.lent), 0)
+}
+
 // Writes the answer; `?` for a line that is no call.
 pub fn print(words: Words, told: Told, space: &[u8]) {
     if told.meant == NO_CALL {
@@ -205,7 +217,7 @@ pub fn print(words: Words, told: Told, space: &[u8]) {
         return;
     }
     print_meant(&vocabulary::ROWS, words, told, space);
-    end(told.stayed);
+    end(stayed(words, told, space));
 }
 
 pub fn unknown() {

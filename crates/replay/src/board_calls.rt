@@ -29,7 +29,8 @@ fn with_board(before: State, board: Board) -> State {
     state
 }
 
-fn fresh(state: State, words: Words, slots: &mut Slots) -> Called {
+// A fresh board.
+pub fn fresh(state: State, words: Words, slots: &mut Slots) -> Called {
     lent::fill(slots, decimals::byte(words.n1));
     state::left(with_board(state, Board::new()), Told::form(0))
 }
@@ -77,16 +78,37 @@ fn stayed(was: Board, board: Board, before: &[u8], after: &[u8]) -> bool {
     lent::stayed_around(before, after, 0, 0)
 }
 
-fn deliver(state: State, words: Words, bytes: &Bytes, slots: &mut Slots) -> Called {
-    let was = state.board;
-    let mut before = [0u8; Board::BUFFER];
-    slices::copy(slots, &mut before, 0);
-    let delivered = board::deliver(was, slots, words::bytes_of(words.n1, words.m1, bytes));
+// What a delivery leaves, and tells.
+fn done(state: State, delivered: board::Told, stayed: bool) -> Called {
     let board = delivered.board;
     let answer = delivered.answer;
-    let stayed = stayed(was, board, &before, slots);
     let number = Told::number(answer_number(answer));
     state::left(with_board(state, board), number.marked(stayed))
+}
+
+// Only a slot that shows another record now may change.
+fn stayed_but(was: Board, delivered: board::Told, before: &[u8], after: &[u8]) -> bool {
+    let board = delivered.board;
+    stayed(was, board, before, after)
+}
+
+fn delivered(board: Board, words: Words, bytes: &Bytes, slots: &mut Slots) -> board::Told {
+    let message = words::bytes_of(words.n1, words.m1, bytes);
+    board::deliver(board, slots, message)
+}
+
+// The space holds the board's bytes from before the delivery.
+fn deliver(
+    state: State,
+    words: Words,
+    bytes: &Bytes,
+    slots: &mut Slots,
+    space: &mut Space,
+) -> Called {
+    let was = state.board;
+    slices::copy(slots, space, 0);
+    let delivered = delivered(was, words, bytes, slots);
+    done(state, delivered, stayed_but(was, delivered, space, slots))
 }
 
 // What a slot shows, with so many bytes of text in the space.
@@ -95,15 +117,14 @@ fn shown_told(slot: Slot, bytes: usize) -> Told {
     match shown {
         Shown::Nothing => Told::number(slot.size as u64),
         Shown::Record(number) => {
-            let mut told = Told::number(number.0);
-            told.meant = 1;
+            let mut told = Told::number(number.0).meaning(1);
             told.n1 = slot.size as u64;
             told.with_bytes(bytes)
         }
     }
 }
 
-fn slot(board: Board, k: usize, buffer: &Slots, space: &mut Space) -> Told {
+fn slot_told(board: Board, k: usize, buffer: &Slots, space: &mut Space) -> Told {
     if SLOTS <= k {
         return Told::no_call();
     }
@@ -122,6 +143,11 @@ fn slot_of(channel: u64) -> usize {
     decimals::size(channel - CHANNEL, SLOTS)
 }
 
+fn slot(state: State, words: Words, slots: &Slots, space: &mut Space) -> Called {
+    let board = state.board;
+    state::left(state, slot_told(board, slot_of(words.n1), slots, space))
+}
+
 pub fn call(
     state: State,
     words: Words,
@@ -129,16 +155,12 @@ pub fn call(
     slots: &mut Slots,
     space: &mut Space,
 ) -> Called {
-    if words.row == b'0' {
-        return fresh(state, words, slots);
-    }
     if !state.has_board {
         return state::left(state, Told::no_call());
     }
-    let board = state.board;
     let row = words.row;
     match row {
-        b'1' => deliver(state, words, bytes, slots),
-        _ => state::left(state, slot(board, slot_of(words.n1), slots, space)),
+        b'0' => deliver(state, words, bytes, slots, space),
+        _ => slot(state, words, slots, space),
     }
 }

@@ -30,10 +30,15 @@ fn told(command: i32, commanded: Commanded) -> Told {
     }
 }
 
-pub fn call(state: State, words: Words, ring: &[u8], lent: &mut [u8]) -> Called {
+fn done(state: State, command: i32, commanded: Commanded) -> Called {
+    let log = commanded.log;
+    state::left(state.with_log(log), told(command, commanded))
+}
+
+pub fn call(state: State, words: Words, ring: &[u8], space: &mut [u8]) -> Called {
     let log = state.log;
     let asked = asked(words);
+    let lent = lent::first(space, words.lent);
     let commanded = syslog::command(log, ring, asked, lent);
-    let after = commanded.log;
-    state::left(state.with_log(after), told(asked.command, commanded))
+    done(state, asked.command, commanded)
 }

@@ -1,6 +1,5 @@
 // Lent buffers: parts of them, their bytes before a call, and whether those stayed that should have.
 use log::Answer;
-ghost use Prim.Native.Nat.{_≤_};
 
 // A lent buffer is filled with this before a call.
 pub const FILL: u8 = 165;
@@ -47,11 +46,18 @@ pub fn part(buffer: &[u8], from: usize, most: usize) -> &[u8] {
     slices::front(&buffer[from..], most)
 }
 
-// The smaller of two lengths.
-pub fn least(a: usize, b: usize) -> usize
-    ensures { λ r. ⌜ r ≤ b ⌝ }
-{
-    if a < b { a } else { b }
+// The first bytes, so many at most, to be lent on.
+pub fn first(buffer: &mut [u8], most: usize) -> &mut [u8] {
+    if most < buffer.len() {
+        &mut buffer[..most]
+    } else {
+        buffer
+    }
+}
+
+// So many first bytes, as a call finds the buffer that it is lent.
+pub fn prepare(space: &mut [u8], most: usize) {
+    fill(first(space, most), FILL);
 }
 
 // The byte at a place; 0 past the end.
@@ -61,14 +67,16 @@ pub fn byte(s: &[u8], at: usize) -> u8 {
 
 // Where a byte stands next, from a place on; the end, if it stands nowhere.
 pub fn next(s: &[u8], from: usize, c: u8) -> usize {
-    let mut i = from;
-    while i < s.len() {
-        if s[i] == c {
-            return i;
-        }
-        i += 1;
+    if s.len() <= from {
+        return s.len();
     }
-    i
+    std::num::wrapping_add_usize(from, slices::until(&s[from..], c))
+}
+
+// The word that begins at a place: up to the next blank.
+pub fn word(s: &[u8], at: usize) -> &[u8] {
+    let rest = part(s, at, s.len());
+    slices::front(rest, slices::until(rest, b' '))
 }
 
 // Bytes put from a place on, as far as the buffer reaches.

@@ -25,29 +25,6 @@ use crate::write_calls;
 
 // ---- calls on a log
 
-// A call that changes none of the log's bytes.
-fn reading(state: State, words: Words, ring: &[u8], lent: &mut [u8]) -> Called {
-    let family = words.family;
-    match family {
-        b'r' => reader_calls::call(state, words, ring, lent),
-        _ => command_calls::call(state, words, ring, lent),
-    }
-}
-
-// It is lent a buffer of the caller's, filled before, which has to stay behind the bytes that the answer counts.
-fn with_lent(state: State, words: Words, ring: &[u8], lent: &mut [u8]) -> Called {
-    lent::fill(lent, lent::FILL);
-    let called = reading(state, words, ring, lent);
-    let told = called.told;
-    let after = called.state;
-    state::left(after, told.marked(lent::stayed(lent, told.to)))
-}
-
-fn in_space(state: State, words: Words, ring: &[u8], space: &mut [u8]) -> Called {
-    let length = lent::least(words.lent, space.len());
-    with_lent(state, words, ring, &mut space[..length])
-}
-
 // The ring is the log's buffer, as long as its capacity.
 fn on_ring(
     state: State,
@@ -60,37 +37,24 @@ fn on_ring(
     match family {
         b'l' => log_calls::call(state, words, bytes, ring, space),
         b'n' => log_calls::set_number(state, words),
-        b'w' => write_calls::call(state, words, bytes, ring),
-        _ => in_space(state, words, ring, space),
+        b'w' => write_calls::call(state, words, bytes, ring, space),
+        b'r' => reader_calls::call(state, words, ring, space),
+        _ => command_calls::call(state, words, ring, space),
     }
 }
 
-fn in_buffer(
+fn on_log(
     state: State,
     words: Words,
     bytes: &Bytes,
     buffer: &mut [u8],
     space: &mut Space,
 ) -> Called {
-    let capacity = lent::least(state.capacity, buffer.len());
-    on_ring(state, words, bytes, &mut buffer[..capacity], space)
-}
-
-// Only the call that makes a log needs none to be there.
-fn on_log(
-    state: State,
-    words: Words,
-    bytes: &Bytes,
-    buffer: &mut Buffer,
-    space: &mut Space,
-) -> Called {
-    if (words.family == b'l') & (words.row == b'0') {
-        return log_calls::fresh(state, words, buffer);
+    if !state.has_log {
+        return state::left(state, Told::no_call());
     }
-    if state.has_log {
-        return in_buffer(state, words, bytes, buffer, space);
-    }
-    state::left(state, Told::no_call())
+    let ring = lent::first(buffer, state.capacity);
+    on_ring(state, words, bytes, ring, space)
 }
 
 // ---- lines
@@ -106,11 +70,14 @@ fn call(
     let family = words.family;
     match family {
         b'b' => board_calls::call(state, words, bytes, slots, space),
-        b'q' => state::left(state, renderer_calls::call(words, bytes, space)),
+        b'q' => renderer_calls::call(state, words, bytes, space),
+        b'f' => log_calls::fresh(state, words, buffer),
+        b'g' => board_calls::fresh(state, words, slots),
         _ => on_log(state, words, bytes, buffer, space),
     }
 }
 
+// The buffer that a line lends is the first bytes of the space, filled before the call.
 fn answer_line(
     state: State,
     line: &[u8],
@@ -123,6 +90,7 @@ fn answer_line(
         answers::unknown();
         return state;
     };
+    lent::prepare(space, words.lent);
     let called = call(state, words, bytes, buffer, slots, space);
     let told = called.told;
     answers::print(words, told, space);

@@ -53,21 +53,23 @@ pub fn set_number(state: State, words: Words) -> Called {
     state::left(state.with_log(after), Told::form(0))
 }
 
-// The log check.
-fn check(log: Log, ring: &[u8]) -> Told {
-    match log::check(log, ring) {
+// What the log check tells.
+fn verdict_told(verdict: Verdict) -> Told {
+    match verdict {
         Verdict::Fine => Told::form(0),
         Verdict::Numbers => Told::form(1),
-        Verdict::Heading(k) => {
-            let mut told = Told::number(k);
-            told.meant = 2;
-            told
-        }
+        Verdict::Heading(k) => Told::number(k).meaning(2),
     }
 }
 
-// The log's numbers.
-fn numbers(log: Log) -> Told {
+fn check(state: State, ring: &[u8]) -> Called {
+    let log = state.log;
+    let verdict = log::check(log, ring);
+    state::left(state, verdict_told(verdict))
+}
+
+// What the log's numbers are.
+fn numbers_told(log: Log) -> Told {
     let mut told = Told::form(0);
     told.n0 = log.start.0 as u64;
     told.n1 = log.used as u64;
@@ -80,18 +82,23 @@ fn numbers(log: Log) -> Told {
     told
 }
 
+fn numbers(state: State) -> Called {
+    let log = state.log;
+    state::left(state, numbers_told(log))
+}
+
 // Bytes of the log's buffer, as far as it reaches.
-fn peek(words: Words, ring: &[u8], space: &mut Space) -> Told {
+fn peek(state: State, words: Words, ring: &[u8], space: &mut Space) -> Called {
     let part = lent::part(ring, words.n1 as usize, words.n2 as usize);
     slices::copy(part, space, 0);
-    Told::form(0).with_bytes(part.len())
+    state::left(state, Told::form(0).with_bytes(part.len()))
 }
 
 // Bytes put into the log's buffer, as far as it reaches.
-fn poke(words: Words, bytes: &Bytes, ring: &mut [u8]) -> Told {
+fn poke(state: State, words: Words, bytes: &Bytes, ring: &mut [u8]) -> Called {
     let poked = words::bytes_of(words.n2, words.m2, bytes);
     lent::put(poked, ring, words.n1 as usize);
-    Told::form(0)
+    state::left(state, Told::form(0))
 }
 
 pub fn call(
@@ -101,12 +108,11 @@ pub fn call(
     ring: &mut [u8],
     space: &mut Space,
 ) -> Called {
-    let log = state.log;
     let row = words.row;
     match row {
-        b'1' => state::left(state, check(log, ring)),
-        b'2' => state::left(state, numbers(log)),
-        b'3' => state::left(state, peek(words, ring, space)),
-        _ => state::left(state, poke(words, bytes, ring)),
+        b'0' => check(state, ring),
+        b'1' => numbers(state),
+        b'2' => peek(state, words, ring, space),
+        _ => poke(state, words, bytes, ring),
     }
 }

@@ -9,6 +9,7 @@ use crate::words;
 use crate::words::Words;
 use kmsg::Given;
 use kmsg::Reader;
+use kmsg::Sought;
 use record::Seq;
 
 const MOST: usize = 16;
@@ -55,19 +56,31 @@ fn place(state: State, k: usize) -> Called {
     state::left(state, Told::number(reader.next.0))
 }
 
-// What a read tells.
-fn given_told(given: Given) -> Told {
+// What a read leaves, and tells.
+fn given_called(state: State, k: usize, given: Given) -> Called {
     let answer = given.answer;
+    let moved = given.reader;
     let mut told = Told::answer(log::answer_number(answer));
     told.n1 = given.lost;
-    told.with_bytes(lent::counted(answer))
+    state::left(
+        with_reader(state, k, moved),
+        told.with_bytes(lent::counted(answer)),
+    )
 }
 
-fn read(state: State, k: usize, ring: &[u8], lent: &mut [u8]) -> Called {
+fn read(state: State, k: usize, words: Words, ring: &[u8], space: &mut [u8]) -> Called {
     let log = state.log;
+    let lent = lent::first(space, words.lent);
     let given = kmsg::read(reader(state, k), log, ring, lent);
-    let moved = given.reader;
-    state::left(with_reader(state, k, moved), given_told(given))
+    given_called(state, k, given)
+}
+
+// What a seek leaves, and tells.
+fn sought_called(state: State, k: usize, sought: Sought) -> Called {
+    let answer = sought.answer;
+    let moved = sought.reader;
+    let told = Told::answer(log::answer_number(answer));
+    state::left(with_reader(state, k, moved), told)
 }
 
 fn seek(state: State, k: usize, words: Words, ring: &[u8]) -> Called {
@@ -75,29 +88,26 @@ fn seek(state: State, k: usize, words: Words, ring: &[u8]) -> Called {
     let offset = words::signed_of(words.n2, words.m2);
     let whence = decimals::narrow(words::signed_of(words.n3, words.m3));
     let sought = kmsg::seek(reader(state, k), log, ring, offset, whence);
-    let answer = sought.answer;
-    let moved = sought.reader;
-    let told = Told::answer(log::answer_number(answer));
-    state::left(with_reader(state, k, moved), told)
+    sought_called(state, k, sought)
 }
 
-fn on_reader(state: State, words: Words, ring: &[u8], lent: &mut [u8]) -> Called {
+fn on_reader(state: State, words: Words, ring: &[u8], space: &mut [u8]) -> Called {
     let k = words.n1 as usize;
     let row = words.row;
     match row {
         b'1' => set(state, k, words.n2),
         b'2' => place(state, k),
-        b'3' => read(state, k, ring, lent),
+        b'3' => read(state, k, words, ring, space),
         _ => seek(state, k, words, ring),
     }
 }
 
-pub fn call(state: State, words: Words, ring: &[u8], lent: &mut [u8]) -> Called {
+pub fn call(state: State, words: Words, ring: &[u8], space: &mut [u8]) -> Called {
     if words.row == b'0' {
         return make(state);
     }
     if words.n1 < state.count as u64 {
-        return on_reader(state, words, ring, lent);
+        return on_reader(state, words, ring, space);
     }
     state::left(state, Told::no_call())
 }

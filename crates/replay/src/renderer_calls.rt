@@ -3,6 +3,9 @@ use crate::answers::Told;
 use crate::decimals;
 use crate::lent;
 use crate::lent::Space;
+use crate::state;
+use crate::state::Called;
+use crate::state::State;
 use crate::words;
 use crate::words::Bytes;
 use crate::words::Words;
@@ -33,39 +36,54 @@ fn accepted(block: &Block) -> Told {
     told
 }
 
-// The result, as many bytes of it as the block says, and the rest that has to stay.
-fn read(message: &[u8], result: &mut [u8; 960], block: &mut Block, space: &mut Space) -> Told {
-    let refusal = message::read_line(message, result, block);
-    slices::copy(result, space, 0);
-    if refusal == 0 {
-        let told = accepted(block);
-        return told.marked(lent::stayed(result, told.more));
-    }
+// Of what it accepted only as many bytes of the result may change as the block says.
+fn accepted_told(result: &[u8; 960], block: &Block) -> Told {
+    let told = accepted(block);
+    told.marked(lent::stayed(result, told.more))
+}
+
+// A refusal changes no byte.
+fn refused_told(refusal: u32, result: &[u8; 960], block: &Block) -> Told {
     let stayed = lent::stayed(result, 0) & lent::stayed(block, 0);
     Told::number(refusal as u64).marked(stayed)
 }
 
-fn line(words: Words, bytes: &Bytes, space: &mut Space) -> Told {
-    let mut result = [lent::FILL; 960];
-    let mut block = [lent::FILL; 48];
-    let message = words::bytes_of(words.n1, words.m1, bytes);
-    read(message, &mut result, &mut block, space)
-}
-
-fn console(words: Words) -> Told {
-    let level = words::signed_of(words.n1, words.m1);
-    let setting = words::signed_of(words.n2, words.m2);
-    if console::goes_to_console(level, setting) {
-        Told::form(0)
+fn read_told(refusal: u32, result: &[u8; 960], block: &Block) -> Told {
+    if refusal == 0 {
+        accepted_told(result, block)
     } else {
-        Told::form(1)
+        refused_told(refusal, result, block)
     }
 }
 
-pub fn call(words: Words, bytes: &Bytes, space: &mut Space) -> Told {
+fn read(message: &[u8], result: &mut [u8; 960], block: &mut Block, space: &mut Space) -> Told {
+    let refusal = message::read_line(message, result, block);
+    slices::copy(result, space, 0);
+    read_told(refusal, result, block)
+}
+
+fn line(state: State, words: Words, bytes: &Bytes, space: &mut Space) -> Called {
+    let mut result = [lent::FILL; 960];
+    let mut block = [lent::FILL; 48];
+    let message = words::bytes_of(words.n1, words.m1, bytes);
+    state::left(state, read(message, &mut result, &mut block, space))
+}
+
+fn console(state: State, words: Words) -> Called {
+    let level = words::signed_of(words.n1, words.m1);
+    let setting = words::signed_of(words.n2, words.m2);
+    let form = if console::goes_to_console(level, setting) {
+        0
+    } else {
+        1
+    };
+    state::left(state, Told::form(form))
+}
+
+pub fn call(state: State, words: Words, bytes: &Bytes, space: &mut Space) -> Called {
     let row = words.row;
     match row {
-        b'0' => line(words, bytes, space),
-        _ => console(words),
+        b'0' => line(state, words, bytes, space),
+        _ => console(state, words),
     }
 }

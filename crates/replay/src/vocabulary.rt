@@ -17,11 +17,11 @@ use crate::words::Bytes;
 use crate::words::Word;
 use crate::words::Words;
 
-pub const ROWS: [u8; 648] = *b"l0 log #70000 #255=log\n\
-    l1 check=fine|numbers|heading n\n\
-    l2 numbers=n n n n n n n n\n\
-    l3 peek # #=h\n\
-    l4 poke # $=poked\n\
+pub const ROWS: [u8; 648] = *b"f0 log #70000 #255=log\n\
+    l0 check=fine|numbers|heading n\n\
+    l1 numbers=n n n n n n n n\n\
+    l2 peek # #=h\n\
+    l3 poke # $=poked\n\
     n0 number start #=set\n\
     n1 number used #=set\n\
     n2 number first #=set\n\
@@ -38,9 +38,9 @@ pub const ROWS: [u8; 648] = *b"l0 log #70000 #255=log\n\
     r3 read # @5000=i n h\n\
     r4 seek # ~9223372036854775807 ~2147483647=i\n\
     c0 command ~2147483647 ~2147483647 #1 #1 @300000=i h\n\
-    b0 board #255=board\n\
-    b1 deliver $=n\n\
-    b2 slot #23=nothing n|n n h\n\
+    g0 board #255=board\n\
+    b0 deliver $=n\n\
+    b1 slot #23=nothing n|n n h\n\
     q0 line $=n|n n n n n h m\n\
     q1 console ~9223372036854775807 ~9223372036854775807=yes|no";
 
@@ -53,9 +53,18 @@ pub enum Reading {
     No,
 }
 
-// What was read, with the k-th word of the line.
-fn with_word(read: Words, k: usize, wanted: &[u8], word: &[u8], bytes: &mut Bytes) -> Reading {
-    match words::read(wanted, word, read.bytes, bytes) {
+// What was read, with the k-th word of the line: the one that begins at a place of the line, as the one at a place of the row wants it.
+fn with_word(
+    read: Words,
+    k: usize,
+    row: &[u8],
+    at: usize,
+    line: &[u8],
+    from: usize,
+    bytes: &mut Bytes,
+) -> Reading {
+    let wanted = lent::word(row, at);
+    match words::read(wanted, lent::word(line, from), read.bytes, bytes) {
         Word::Fits(n, m) => {
             let kind = lent::byte(wanted, 0);
             Reading::Words(read.with(k, n, m).with_kind(kind, n, m))
@@ -73,9 +82,7 @@ fn read_by(row: &[u8], line: &[u8], bytes: &mut Bytes) -> Reading {
     while k < words::MOST {
         let stop = lent::next(row, at, b' ');
         let to = lent::next(line, from, b' ');
-        let wanted = lent::between(row, at, stop);
-        let word = lent::between(line, from, to);
-        let Reading::Words(after) = with_word(read, k, wanted, word, bytes) else {
+        let Reading::Words(after) = with_word(read, k, row, at, line, from, bytes) else {
             return Reading::No;
         };
         read = after;

@@ -1,6 +1,7 @@
 // The script's writes, from outside and from the box.
 use crate::answers::Told;
 use crate::lent;
+use crate::lent::Space;
 use crate::state;
 use crate::state::Called;
 use crate::state::State;
@@ -60,20 +61,25 @@ fn stayed(was: Log, written: Written, before: &[u8], after: &[u8]) -> bool {
     lent::stayed_around(before, after, from, cost)
 }
 
-// What a write tells.
-fn told(written: Written, stayed: bool) -> Told {
+// What a write leaves, and tells.
+fn done(state: State, written: Written, stayed: bool) -> Called {
+    let log = written.log;
     let answer = written.answer;
     let mut told = Told::answer(log::answer_number(answer));
     told.n1 = written.dropped;
-    told.marked(stayed)
+    state::left(state.with_log(log), told.marked(stayed))
 }
 
-pub fn call(state: State, words: Words, bytes: &Bytes, ring: &mut [u8]) -> Called {
-    let mut before = [0u8; 70000];
-    slices::copy(ring, &mut before, 0);
+// The space holds the log's bytes from before the write.
+pub fn call(
+    state: State,
+    words: Words,
+    bytes: &Bytes,
+    ring: &mut [u8],
+    space: &mut Space,
+) -> Called {
     let was = state.log;
+    slices::copy(ring, space, 0);
     let written = write(was, words, bytes, ring);
-    let log = written.log;
-    let stayed = stayed(was, written, &before, ring);
-    state::left(state.with_log(log), told(written, stayed))
+    done(state, written, stayed(was, written, space, ring))
 }

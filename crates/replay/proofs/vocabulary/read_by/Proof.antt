@@ -22,12 +22,6 @@ next-requires c κs = search needs
 next-requires-2 : tie.Need-next-requires-2 Inv-loop μ-loop
 next-requires-2 c κs = search needs
 
-between-requires : tie.Need-between-requires Inv-loop μ-loop
-between-requires c κs = search needs
-
-between-requires-2 : tie.Need-between-requires-2 Inv-loop μ-loop
-between-requires-2 c κs = search needs
-
 with-word-requires : tie.Need-with-word-requires Inv-loop μ-loop
 with-word-requires c κs = search needs
 
@@ -77,8 +71,6 @@ read-by-spec =
     loop-holds
     next-requires
     next-requires-2
-    between-requires
-    between-requires-2
     with-word-requires
     enum-known-after
     enum-told
