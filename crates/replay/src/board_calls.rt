@@ -31,7 +31,7 @@ fn with_board(before: State, board: Board) -> State {
 
 // A fresh board.
 pub fn fresh(state: State, words: Words, slots: &mut Slots) -> Called {
-    lent::fill(slots, decimals::byte(words.n1));
+    lent::fill(slots, decimals::byte(words.w1.n));
     state::left(with_board(state, Board::new()), Told::form(0))
 }
 
@@ -93,7 +93,7 @@ fn stayed_but(was: Board, delivered: board::Told, before: &[u8], after: &[u8]) -
 }
 
 fn delivered(board: Board, words: Words, bytes: &Bytes, slots: &mut Slots) -> board::Told {
-    let message = words::bytes_of(words.n1, words.m1, bytes);
+    let message = words::bytes_of(words.w1, bytes);
     board::deliver(board, slots, message)
 }
 
@@ -145,7 +145,7 @@ fn slot_of(channel: u64) -> usize {
 
 fn slot(state: State, words: Words, slots: &Slots, space: &mut Space) -> Called {
     let board = state.board;
-    state::left(state, slot_told(board, slot_of(words.n1), slots, space))
+    state::left(state, slot_told(board, slot_of(words.w1.n), slots, space))
 }
 
 pub fn call(

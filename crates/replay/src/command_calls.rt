@@ -12,10 +12,10 @@ use syslog::Commanded;
 
 fn asked(words: Words) -> Asked {
     Asked {
-        command: decimals::narrow(words::signed_of(words.n1, words.m1)),
-        len: decimals::narrow(words::signed_of(words.n2, words.m2)),
-        privilege: words.n3 == 1,
-        restriction: words.n4 == 1,
+        command: decimals::narrow(words::signed_of(words.w1)),
+        len: decimals::narrow(words::signed_of(words.w2)),
+        privilege: words.w3.n == 1,
+        restriction: words.w4.n == 1,
     }
 }
 

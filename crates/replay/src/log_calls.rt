@@ -20,10 +20,10 @@ pub type Buffer = [u8; 70000];
 
 // A fresh log: all readers go.
 pub fn fresh(before: State, words: Words, buffer: &mut Buffer) -> Called {
-    lent::fill(buffer, decimals::byte(words.n2));
+    lent::fill(buffer, decimals::byte(words.w2.n));
     let mut state = before.with_log(Log::new());
     state.has_log = true;
-    state.capacity = words.n1 as usize;
+    state.capacity = words.w1.n as usize;
     state.count = 0;
     state::left(state, Told::form(0))
 }
@@ -49,7 +49,7 @@ fn with_number(log: Log, row: u8, n: u64) -> Log {
 
 pub fn set_number(state: State, words: Words) -> Called {
     let log = state.log;
-    let after = with_number(log, words.row, words.n2);
+    let after = with_number(log, words.row, words.w2.n);
     state::left(state.with_log(after), Told::form(0))
 }
 
@@ -89,15 +89,15 @@ fn numbers(state: State) -> Called {
 
 // Bytes of the log's buffer, as far as it reaches.
 fn peek(state: State, words: Words, ring: &[u8], space: &mut Space) -> Called {
-    let part = lent::part(ring, words.n1 as usize, words.n2 as usize);
+    let part = lent::part(ring, words.w1.n as usize, words.w2.n as usize);
     slices::copy(part, space, 0);
     state::left(state, Told::form(0).with_bytes(part.len()))
 }
 
 // Bytes put into the log's buffer, as far as it reaches.
 fn poke(state: State, words: Words, bytes: &Bytes, ring: &mut [u8]) -> Called {
-    let poked = words::bytes_of(words.n2, words.m2, bytes);
-    lent::put(poked, ring, words.n1 as usize);
+    let poked = words::bytes_of(words.w2, bytes);
+    lent::put(poked, ring, words.w1.n as usize);
     state::left(state, Told::form(0))
 }
 

@@ -85,17 +85,17 @@ fn sought_called(state: State, k: usize, sought: Sought) -> Called {
 
 fn seek(state: State, k: usize, words: Words, ring: &[u8]) -> Called {
     let log = state.log;
-    let offset = words::signed_of(words.n2, words.m2);
-    let whence = decimals::narrow(words::signed_of(words.n3, words.m3));
+    let offset = words::signed_of(words.w2);
+    let whence = decimals::narrow(words::signed_of(words.w3));
     let sought = kmsg::seek(reader(state, k), log, ring, offset, whence);
     sought_called(state, k, sought)
 }
 
 fn on_reader(state: State, words: Words, ring: &[u8], space: &mut [u8]) -> Called {
-    let k = words.n1 as usize;
+    let k = words.w1.n as usize;
     let row = words.row;
     match row {
-        b'1' => set(state, k, words.n2),
+        b'1' => set(state, k, words.w2.n),
         b'2' => place(state, k),
         b'3' => read(state, k, words, ring, space),
         _ => seek(state, k, words, ring),
@@ -106,7 +106,7 @@ pub fn call(state: State, words: Words, ring: &[u8], space: &mut [u8]) -> Called
     if words.row == b'0' {
         return make(state);
     }
-    if words.n1 < state.count as u64 {
+    if words.w1.n < state.count as u64 {
         return on_reader(state, words, ring, space);
     }
     state::left(state, Told::no_call())

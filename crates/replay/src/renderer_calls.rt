@@ -65,13 +65,13 @@ fn read(message: &[u8], result: &mut [u8; 960], block: &mut Block, space: &mut S
 fn line(state: State, words: Words, bytes: &Bytes, space: &mut Space) -> Called {
     let mut result = [lent::FILL; 960];
     let mut block = [lent::FILL; 48];
-    let message = words::bytes_of(words.n1, words.m1, bytes);
+    let message = words::bytes_of(words.w1, bytes);
     state::left(state, read(message, &mut result, &mut block, space))
 }
 
 fn console(state: State, words: Words) -> Called {
-    let level = words::signed_of(words.n1, words.m1);
-    let setting = words::signed_of(words.n2, words.m2);
+    let level = words::signed_of(words.w1);
+    let setting = words::signed_of(words.w2);
     let form = if console::goes_to_console(level, setting) {
         0
     } else {

@@ -65,9 +65,9 @@ fn with_word(
 ) -> Reading {
     let wanted = lent::word(row, at);
     match words::read(wanted, lent::word(line, from), read.bytes, bytes) {
-        Word::Fits(n, m) => {
+        Word::Fits(value) => {
             let kind = lent::byte(wanted, 0);
-            Reading::Words(read.with(k, n, m).with_kind(kind, n, m))
+            Reading::Words(read.with(k, value).with_kind(kind, value))
         }
         Word::No => Reading::No,
     }

@@ -11,8 +11,14 @@ pub type Bytes = [u8; 20000];
 // No line has more words, its name with them.
 pub const MOST: usize = 8;
 
-// The line's row, where the forms of its answer begin and end in the vocabulary, how many bytes its words spell, how long a buffer it lends; and for
-// each word behind the name two numbers: a value and whether it is negative, or where its bytes begin and end.
+// What a word says: a number, and 1 where it is negative; or where its bytes begin and end.
+pub struct Value {
+    pub n: u64,
+    pub m: u64,
+}
+
+// The line's row, where the forms of its answer begin and end in the vocabulary, how many bytes its words spell, how long a buffer it lends; and what
+// each word behind the name says.
 pub struct Words {
     pub family: u8,
     pub row: u8,
@@ -20,26 +26,22 @@ pub struct Words {
     pub forms_end: usize,
     pub bytes: usize,
     pub lent: usize,
-    pub n1: u64,
-    pub m1: u64,
-    pub n2: u64,
-    pub m2: u64,
-    pub n3: u64,
-    pub m3: u64,
-    pub n4: u64,
-    pub m4: u64,
-    pub n5: u64,
-    pub m5: u64,
+    pub w1: Value,
+    pub w2: Value,
+    pub w3: Value,
+    pub w4: Value,
+    pub w5: Value,
 }
 
-// A word: its two numbers, or that it is not what is wanted.
+// A word: what it says, or that it is not what is wanted.
 pub enum Word {
-    Fits(u64, u64),
+    Fits(Value),
     No,
 }
 
 impl Words {
     pub fn new() -> Self {
+        let nothing = Value { n: 0, m: 0 };
         Words {
             family: 0,
             row: 0,
@@ -47,62 +49,46 @@ impl Words {
             forms_end: 0,
             bytes: 0,
             lent: 0,
-            n1: 0,
-            m1: 0,
-            n2: 0,
-            m2: 0,
-            n3: 0,
-            m3: 0,
-            n4: 0,
-            m4: 0,
-            n5: 0,
-            m5: 0,
+            w1: nothing,
+            w2: nothing,
+            w3: nothing,
+            w4: nothing,
+            w5: nothing,
         }
     }
 
     // With the k-th word.
-    pub fn with(self, k: usize, n: u64, m: u64) -> Self {
+    pub fn with(self, k: usize, value: Value) -> Self {
         let mut words = self;
         match k {
-            1 => {
-                words.n1 = n;
-                words.m1 = m;
-            }
-            2 => {
-                words.n2 = n;
-                words.m2 = m;
-            }
-            3 => {
-                words.n3 = n;
-                words.m3 = m;
-            }
-            4 => {
-                words.n4 = n;
-                words.m4 = m;
-            }
-            _ => {
-                words.n5 = n;
-                words.m5 = m;
-            }
+            1 => words.w1 = value,
+            2 => words.w2 = value,
+            3 => words.w3 = value,
+            4 => words.w4 = value,
+            _ => words.w5 = value,
         }
         words
     }
 
     // With what a word of this kind says of the whole line.
-    pub fn with_kind(self, kind: u8, n: u64, m: u64) -> Self {
+    pub fn with_kind(self, kind: u8, value: Value) -> Self {
         let mut words = self;
         match kind {
-            b'$' => words.bytes = m as usize,
-            b'@' => words.lent = n as usize,
+            b'$' => words.bytes = value.m as usize,
+            b'@' => words.lent = value.n as usize,
             _ => {}
         }
         words
     }
 }
 
+fn fits(n: u64, m: u64) -> Word {
+    Word::Fits(Value { n, m })
+}
+
 fn number(word: &[u8], most: u64, negative: u64) -> Word {
     match decimals::read(word, most) {
-        Num::Value(n) => Word::Fits(n, negative),
+        Num::Value(n) => fits(n, negative),
         Num::No => Word::No,
     }
 }
@@ -117,14 +103,14 @@ fn signed(word: &[u8], most: u64) -> Word {
 
 fn bytes_at(word: &[u8], from: usize, bytes: &mut Bytes) -> Word {
     match hex::read(word, bytes, from) {
-        Hex::End(to) => Word::Fits(from as u64, to as u64),
+        Hex::End(to) => fits(from as u64, to as u64),
         Hex::No => Word::No,
     }
 }
 
 fn name(wanted: &[u8], word: &[u8]) -> Word {
     if check::same(wanted, word) {
-        Word::Fits(0, 0)
+        fits(0, 0)
     } else {
         Word::No
     }
@@ -143,23 +129,23 @@ pub fn read(wanted: &[u8], word: &[u8], from: usize, bytes: &mut Bytes) -> Word 
 
 // ---- what was read
 
-pub fn signed_of(n: u64, m: u64) -> i64 {
-    if m == 1 {
-        decimals::below_zero(n)
+pub fn signed_of(word: Value) -> i64 {
+    if word.m == 1 {
+        decimals::below_zero(word.n)
     } else {
-        decimals::above_zero(n)
+        decimals::above_zero(word.n)
     }
 }
 
 // Of a call that takes no number below 0: one counts as the largest, which no facility and no level is.
-pub fn unsigned_of(n: u64, m: u64) -> u64 {
-    if (m == 1) & (n != 0) {
+pub fn unsigned_of(word: Value) -> u64 {
+    if (word.m == 1) & (word.n != 0) {
         decimals::WORD_MOST
     } else {
-        n
+        word.n
     }
 }
 
-pub fn bytes_of(n: u64, m: u64, bytes: &Bytes) -> &[u8] {
-    lent::between(bytes, n as usize, m as usize)
+pub fn bytes_of(word: Value, bytes: &Bytes) -> &[u8] {
+    lent::between(bytes, word.n as usize, word.m as usize)
 }

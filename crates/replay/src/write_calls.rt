@@ -13,16 +13,16 @@ use log::Log;
 use writes::Written;
 
 fn outside(log: Log, words: Words, bytes: &Bytes, ring: &mut [u8]) -> Written {
-    let handed = words::bytes_of(words.n2, words.m2, bytes);
-    writes::write_outside(log, ring, words.n1, handed)
+    let handed = words::bytes_of(words.w2, bytes);
+    writes::write_outside(log, ring, words.w1.n, handed)
 }
 
 fn from_box(log: Log, words: Words, bytes: &Bytes, ring: &mut [u8]) -> Written {
-    let text = words::bytes_of(words.n4, words.m4, bytes);
-    let dictionary = words::bytes_of(words.n5, words.m5, bytes);
-    let facility = words::unsigned_of(words.n1, words.m1);
-    let level = words::unsigned_of(words.n2, words.m2);
-    writes::write_box(log, ring, facility, level, words.n3, text, dictionary)
+    let text = words::bytes_of(words.w4, bytes);
+    let dictionary = words::bytes_of(words.w5, bytes);
+    let facility = words::unsigned_of(words.w1);
+    let level = words::unsigned_of(words.w2);
+    writes::write_box(log, ring, facility, level, words.w3.n, text, dictionary)
 }
 
 fn write(log: Log, words: Words, bytes: &Bytes, ring: &mut [u8]) -> Written {
