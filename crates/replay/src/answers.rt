@@ -5,6 +5,7 @@ use crate::lent;
 use crate::vocabulary;
 use crate::words::Words;
 use libc::STDOUT_FILENO;
+use log::Answer;
 
 // No form has more words.
 const WORDS: usize = 16;
@@ -64,7 +65,8 @@ impl Told {
     }
 
     // An answer of the log.
-    pub fn answer(n: i64) -> Self {
+    pub fn answer(answer: Answer) -> Self {
+        let n = log::answer_number(answer);
         let mut told = Told::number(decimals::magnitude(n));
         told.negative = n < 0;
         told

@@ -4,6 +4,7 @@ use crate::decimals;
 use crate::lent;
 use crate::lent::Space;
 use crate::state;
+use crate::state::BoardCalled;
 use crate::state::Called;
 use crate::state::State;
 use crate::words;
@@ -22,17 +23,10 @@ const SLOTS: usize = 8;
 // The channel of the first slot.
 const CHANNEL: u64 = 16;
 
-fn with_board(before: State, board: Board) -> State {
-    let mut state = before;
-    state.has_board = true;
-    state.board = board;
-    state
-}
-
 // A fresh board.
 pub fn fresh(state: State, words: Words, slots: &mut Slots) -> Called {
     lent::fill(slots, decimals::byte(words.w1.n));
-    state::left(with_board(state, Board::new()), Told::form(0))
+    state::left(state.with_board(Board::new()), Told::form(0))
 }
 
 fn answer_number(answer: Answer) -> u64 {
@@ -79,11 +73,11 @@ fn stayed(was: Board, board: Board, before: &[u8], after: &[u8]) -> bool {
 }
 
 // What a delivery leaves, and tells.
-fn done(state: State, delivered: board::Told, stayed: bool) -> Called {
+fn done(delivered: board::Told, stayed: bool) -> BoardCalled {
     let board = delivered.board;
     let answer = delivered.answer;
-    let number = Told::number(answer_number(answer));
-    state::left(with_board(state, board), number.marked(stayed))
+    let told = Told::number(answer_number(answer)).marked(stayed);
+    BoardCalled { board, told }
 }
 
 // Only a slot that shows another record now may change.
@@ -99,16 +93,15 @@ fn delivered(board: Board, words: Words, bytes: &Bytes, slots: &mut Slots) -> bo
 
 // The space holds the board's bytes from before the delivery.
 fn deliver(
-    state: State,
+    board: Board,
     words: Words,
     bytes: &Bytes,
     slots: &mut Slots,
     space: &mut Space,
-) -> Called {
-    let was = state.board;
+) -> BoardCalled {
     slices::copy(slots, space, 0);
-    let delivered = delivered(was, words, bytes, slots);
-    done(state, delivered, stayed_but(was, delivered, space, slots))
+    let delivered = delivered(board, words, bytes, slots);
+    done(delivered, stayed_but(board, delivered, space, slots))
 }
 
 // What a slot shows, with so many bytes of text in the space.
@@ -143,9 +136,23 @@ fn slot_of(channel: u64) -> usize {
     decimals::size(channel - CHANNEL, SLOTS)
 }
 
-fn slot(state: State, words: Words, slots: &Slots, space: &mut Space) -> Called {
-    let board = state.board;
-    state::left(state, slot_told(board, slot_of(words.w1.n), slots, space))
+fn slot(board: Board, words: Words, slots: &Slots, space: &mut Space) -> BoardCalled {
+    let told = slot_told(board, slot_of(words.w1.n), slots, space);
+    BoardCalled { board, told }
+}
+
+fn on_board(
+    board: Board,
+    words: Words,
+    bytes: &Bytes,
+    slots: &mut Slots,
+    space: &mut Space,
+) -> BoardCalled {
+    let row = words.row;
+    match row {
+        b'0' => deliver(board, words, bytes, slots, space),
+        _ => slot(board, words, slots, space),
+    }
 }
 
 pub fn call(
@@ -158,9 +165,6 @@ pub fn call(
     if !state.has_board {
         return state::left(state, Told::no_call());
     }
-    let row = words.row;
-    match row {
-        b'0' => deliver(state, words, bytes, slots, space),
-        _ => slot(state, words, slots, space),
-    }
+    let board = state.board;
+    state::with_board(state, on_board(board, words, bytes, slots, space))
 }

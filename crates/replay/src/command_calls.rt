@@ -4,9 +4,11 @@ use crate::decimals;
 use crate::lent;
 use crate::state;
 use crate::state::Called;
+use crate::state::LogCalled;
 use crate::state::State;
 use crate::words;
 use crate::words::Words;
+use log::Log;
 use syslog::Asked;
 use syslog::Commanded;
 
@@ -22,7 +24,7 @@ fn asked(words: Words) -> Asked {
 // What a command tells. Only commands 2 to 4 count bytes of the lent buffer.
 fn told(command: i32, commanded: Commanded) -> Told {
     let answer = commanded.answer;
-    let told = Told::answer(log::answer_number(answer));
+    let told = Told::answer(answer);
     if (2 <= command) & (command <= 4) {
         told.with_bytes(lent::counted(answer))
     } else {
@@ -30,15 +32,20 @@ fn told(command: i32, commanded: Commanded) -> Told {
     }
 }
 
-fn done(state: State, command: i32, commanded: Commanded) -> Called {
+fn done(command: i32, commanded: Commanded) -> LogCalled {
     let log = commanded.log;
-    state::left(state.with_log(log), told(command, commanded))
+    let told = told(command, commanded);
+    LogCalled { log, told }
+}
+
+fn on_log(log: Log, words: Words, ring: &[u8], space: &mut [u8]) -> LogCalled {
+    let asked = asked(words);
+    let lent = lent::first(space, words.lent);
+    let commanded = syslog::command(log, ring, asked, lent);
+    done(asked.command, commanded)
 }
 
 pub fn call(state: State, words: Words, ring: &[u8], space: &mut [u8]) -> Called {
     let log = state.log;
-    let asked = asked(words);
-    let lent = lent::first(space, words.lent);
-    let commanded = syslog::command(log, ring, asked, lent);
-    done(state, asked.command, commanded)
+    state::with_log(state, on_log(log, words, ring, space))
 }

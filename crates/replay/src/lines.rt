@@ -26,23 +26,6 @@ use crate::write_calls;
 // ---- calls on a log
 
 // The ring is the log's buffer, as long as its capacity.
-fn on_ring(
-    state: State,
-    words: Words,
-    bytes: &Bytes,
-    ring: &mut [u8],
-    space: &mut Space,
-) -> Called {
-    let family = words.family;
-    match family {
-        b'l' => log_calls::call(state, words, bytes, ring, space),
-        b'n' => log_calls::set_number(state, words),
-        b'w' => write_calls::call(state, words, bytes, ring, space),
-        b'r' => reader_calls::call(state, words, ring, space),
-        _ => command_calls::call(state, words, ring, space),
-    }
-}
-
 fn on_log(
     state: State,
     words: Words,
@@ -54,7 +37,14 @@ fn on_log(
         return state::left(state, Told::no_call());
     }
     let ring = lent::first(buffer, state.capacity);
-    on_ring(state, words, bytes, ring, space)
+    let family = words.family;
+    match family {
+        b'l' => log_calls::call(state, words, bytes, ring, space),
+        b'n' => log_calls::set_number(state, words),
+        b'w' => write_calls::call(state, words, bytes, ring, space),
+        b'r' => reader_calls::call(state, words, ring, space),
+        _ => command_calls::call(state, words, ring, space),
+    }
 }
 
 // ---- lines

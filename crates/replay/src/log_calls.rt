@@ -62,14 +62,12 @@ fn verdict_told(verdict: Verdict) -> Told {
     }
 }
 
-fn check(state: State, ring: &[u8]) -> Called {
-    let log = state.log;
-    let verdict = log::check(log, ring);
-    state::left(state, verdict_told(verdict))
+fn check(log: Log, ring: &[u8]) -> Told {
+    verdict_told(log::check(log, ring))
 }
 
-// What the log's numbers are.
-fn numbers_told(log: Log) -> Told {
+// The log's numbers.
+fn numbers(log: Log) -> Told {
     let mut told = Told::form(0);
     told.n0 = log.start.0 as u64;
     told.n1 = log.used as u64;
@@ -82,23 +80,28 @@ fn numbers_told(log: Log) -> Told {
     told
 }
 
-fn numbers(state: State) -> Called {
-    let log = state.log;
-    state::left(state, numbers_told(log))
-}
-
 // Bytes of the log's buffer, as far as it reaches.
-fn peek(state: State, words: Words, ring: &[u8], space: &mut Space) -> Called {
+fn peek(words: Words, ring: &[u8], space: &mut Space) -> Told {
     let part = lent::part(ring, words.w1.n as usize, words.w2.n as usize);
     slices::copy(part, space, 0);
-    state::left(state, Told::form(0).with_bytes(part.len()))
+    Told::form(0).with_bytes(part.len())
 }
 
 // Bytes put into the log's buffer, as far as it reaches.
-fn poke(state: State, words: Words, bytes: &Bytes, ring: &mut [u8]) -> Called {
+fn poke(words: Words, bytes: &Bytes, ring: &mut [u8]) -> Told {
     let poked = words::bytes_of(words.w2, bytes);
     lent::put(poked, ring, words.w1.n as usize);
-    state::left(state, Told::form(0))
+    Told::form(0)
+}
+
+fn tell(log: Log, words: Words, bytes: &Bytes, ring: &mut [u8], space: &mut Space) -> Told {
+    let row = words.row;
+    match row {
+        b'0' => check(log, ring),
+        b'1' => numbers(log),
+        b'2' => peek(words, ring, space),
+        _ => poke(words, bytes, ring),
+    }
 }
 
 pub fn call(
@@ -108,11 +111,6 @@ pub fn call(
     ring: &mut [u8],
     space: &mut Space,
 ) -> Called {
-    let row = words.row;
-    match row {
-        b'0' => check(state, ring),
-        b'1' => numbers(state),
-        b'2' => peek(state, words, ring, space),
-        _ => poke(state, words, bytes, ring),
-    }
+    let log = state.log;
+    state::left(state, tell(log, words, bytes, ring, space))
 }

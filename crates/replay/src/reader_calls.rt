@@ -10,16 +10,75 @@ use crate::words::Words;
 use kmsg::Given;
 use kmsg::Reader;
 use kmsg::Sought;
+use log::Log;
 use record::Seq;
 
 const MOST: usize = 16;
 
-fn reader(state: State, k: usize) -> Reader {
-    let next = if k < MOST {
-        Seq(state.readers[k])
-    } else {
-        Seq(0)
-    };
+// What a call on a reader leaves, and tells.
+struct ReaderCalled {
+    reader: Reader,
+    told: Told,
+}
+
+fn left(reader: Reader, told: Told) -> ReaderCalled {
+    ReaderCalled { reader, told }
+}
+
+// A reader's number set by hand.
+fn set(n: u64) -> ReaderCalled {
+    left(Reader { next: Seq(n) }, Told::form(0))
+}
+
+fn place(reader: Reader) -> ReaderCalled {
+    left(reader, Told::number(reader.next.0))
+}
+
+fn given(given: Given) -> ReaderCalled {
+    let answer = given.answer;
+    let reader = given.reader;
+    let mut told = Told::answer(answer);
+    told.n1 = given.lost;
+    left(reader, told.with_bytes(lent::counted(answer)))
+}
+
+fn read(reader: Reader, log: Log, words: Words, ring: &[u8], space: &mut [u8]) -> ReaderCalled {
+    let lent = lent::first(space, words.lent);
+    given(kmsg::read(reader, log, ring, lent))
+}
+
+fn sought(sought: Sought) -> ReaderCalled {
+    let answer = sought.answer;
+    let reader = sought.reader;
+    left(reader, Told::answer(answer))
+}
+
+fn seek(reader: Reader, log: Log, words: Words, ring: &[u8]) -> ReaderCalled {
+    let offset = words::signed_of(words.w2);
+    let whence = decimals::narrow(words::signed_of(words.w3));
+    sought(kmsg::seek(reader, log, ring, offset, whence))
+}
+
+fn on_reader(
+    reader: Reader,
+    log: Log,
+    words: Words,
+    ring: &[u8],
+    space: &mut [u8],
+) -> ReaderCalled {
+    let row = words.row;
+    match row {
+        b'1' => set(words.w2.n),
+        b'2' => place(reader),
+        b'3' => read(reader, log, words, ring, space),
+        _ => seek(reader, log, words, ring),
+    }
+}
+
+// ---- the readers of a rehearsal
+
+fn reader(readers: [u64; 16], k: usize) -> Reader {
+    let next = if k < MOST { Seq(readers[k]) } else { Seq(0) };
     Reader { next }
 }
 
@@ -43,63 +102,18 @@ fn make(state: State) -> Called {
     state::left(after, Told::number(k as u64))
 }
 
-// A reader's number set by hand.
-fn set(state: State, k: usize, n: u64) -> Called {
-    state::left(
-        with_reader(state, k, Reader { next: Seq(n) }),
-        Told::form(0),
-    )
+fn with_called(state: State, k: usize, called: ReaderCalled) -> Called {
+    let reader = called.reader;
+    let told = called.told;
+    state::left(with_reader(state, k, reader), told)
 }
 
-fn place(state: State, k: usize) -> Called {
-    let reader = reader(state, k);
-    state::left(state, Told::number(reader.next.0))
-}
-
-// What a read leaves, and tells.
-fn given_called(state: State, k: usize, given: Given) -> Called {
-    let answer = given.answer;
-    let moved = given.reader;
-    let mut told = Told::answer(log::answer_number(answer));
-    told.n1 = given.lost;
-    state::left(
-        with_reader(state, k, moved),
-        told.with_bytes(lent::counted(answer)),
-    )
-}
-
-fn read(state: State, k: usize, words: Words, ring: &[u8], space: &mut [u8]) -> Called {
-    let log = state.log;
-    let lent = lent::first(space, words.lent);
-    let given = kmsg::read(reader(state, k), log, ring, lent);
-    given_called(state, k, given)
-}
-
-// What a seek leaves, and tells.
-fn sought_called(state: State, k: usize, sought: Sought) -> Called {
-    let answer = sought.answer;
-    let moved = sought.reader;
-    let told = Told::answer(log::answer_number(answer));
-    state::left(with_reader(state, k, moved), told)
-}
-
-fn seek(state: State, k: usize, words: Words, ring: &[u8]) -> Called {
-    let log = state.log;
-    let offset = words::signed_of(words.w2);
-    let whence = decimals::narrow(words::signed_of(words.w3));
-    let sought = kmsg::seek(reader(state, k), log, ring, offset, whence);
-    sought_called(state, k, sought)
-}
-
-fn on_reader(state: State, words: Words, ring: &[u8], space: &mut [u8]) -> Called {
+fn on_state(state: State, words: Words, ring: &[u8], space: &mut [u8]) -> Called {
     let k = words.w1.n as usize;
-    let row = words.row;
-    match row {
-        b'1' => set(state, k, words.w2.n),
-        b'2' => place(state, k),
-        b'3' => read(state, k, words, ring, space),
-        _ => seek(state, k, words, ring),
-    }
+    let log = state.log;
+    let readers = state.readers;
+    let called = on_reader(reader(readers, k), log, words, ring, space);
+    with_called(state, k, called)
 }
 
 pub fn call(state: State, words: Words, ring: &[u8], space: &mut [u8]) -> Called {
@@ -107,7 +121,7 @@ pub fn call(state: State, words: Words, ring: &[u8], space: &mut [u8]) -> Called
         return make(state);
     }
     if words.w1.n < state.count as u64 {
-        return on_reader(state, words, ring, space);
+        return on_state(state, words, ring, space);
     }
     state::left(state, Told::no_call())
 }

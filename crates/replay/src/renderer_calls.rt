@@ -62,28 +62,31 @@ fn read(message: &[u8], result: &mut [u8; 960], block: &mut Block, space: &mut S
     read_told(refusal, result, block)
 }
 
-fn line(state: State, words: Words, bytes: &Bytes, space: &mut Space) -> Called {
+fn line(words: Words, bytes: &Bytes, space: &mut Space) -> Told {
     let mut result = [lent::FILL; 960];
     let mut block = [lent::FILL; 48];
     let message = words::bytes_of(words.w1, bytes);
-    state::left(state, read(message, &mut result, &mut block, space))
+    read(message, &mut result, &mut block, space)
 }
 
-fn console(state: State, words: Words) -> Called {
+fn console(words: Words) -> Told {
     let level = words::signed_of(words.w1);
     let setting = words::signed_of(words.w2);
-    let form = if console::goes_to_console(level, setting) {
-        0
+    if console::goes_to_console(level, setting) {
+        Told::form(0)
     } else {
-        1
-    };
-    state::left(state, Told::form(form))
+        Told::form(1)
+    }
+}
+
+fn tell(words: Words, bytes: &Bytes, space: &mut Space) -> Told {
+    let row = words.row;
+    match row {
+        b'0' => line(words, bytes, space),
+        _ => console(words),
+    }
 }
 
 pub fn call(state: State, words: Words, bytes: &Bytes, space: &mut Space) -> Called {
-    let row = words.row;
-    match row {
-        b'0' => line(state, words, bytes, space),
-        _ => console(state, words),
-    }
+    state::left(state, tell(words, bytes, space))
 }

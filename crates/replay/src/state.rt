@@ -16,9 +16,19 @@ pub struct State {
     pub board: Board,
 }
 
-// What a call leaves, and what it tells.
+// What a call leaves, and what it tells: of the whole state, or of the log or the board alone.
 pub struct Called {
     pub state: State,
+    pub told: Told,
+}
+
+pub struct LogCalled {
+    pub log: Log,
+    pub told: Told,
+}
+
+pub struct BoardCalled {
+    pub board: Board,
     pub told: Told,
 }
 
@@ -42,8 +52,27 @@ impl State {
         state.log = log;
         state
     }
+
+    pub fn with_board(self, board: Board) -> Self {
+        let mut state = self;
+        state.has_board = true;
+        state.board = board;
+        state
+    }
 }
 
 pub fn left(state: State, told: Told) -> Called {
     Called { state, told }
+}
+
+pub fn with_log(state: State, called: LogCalled) -> Called {
+    let log = called.log;
+    let told = called.told;
+    left(state.with_log(log), told)
+}
+
+pub fn with_board(state: State, called: BoardCalled) -> Called {
+    let board = called.board;
+    let told = called.told;
+    left(state.with_board(board), told)
 }

@@ -4,6 +4,7 @@ use crate::lent;
 use crate::lent::Space;
 use crate::state;
 use crate::state::Called;
+use crate::state::LogCalled;
 use crate::state::State;
 use crate::words;
 use crate::words::Bytes;
@@ -62,15 +63,22 @@ fn stayed(was: Log, written: Written, before: &[u8], after: &[u8]) -> bool {
 }
 
 // What a write leaves, and tells.
-fn done(state: State, written: Written, stayed: bool) -> Called {
+fn done(written: Written, stayed: bool) -> LogCalled {
     let log = written.log;
     let answer = written.answer;
-    let mut told = Told::answer(log::answer_number(answer));
+    let mut told = Told::answer(answer);
     told.n1 = written.dropped;
-    state::left(state.with_log(log), told.marked(stayed))
+    told.stayed = stayed;
+    LogCalled { log, told }
 }
 
 // The space holds the log's bytes from before the write.
+fn on_log(log: Log, words: Words, bytes: &Bytes, ring: &mut [u8], space: &mut Space) -> LogCalled {
+    slices::copy(ring, space, 0);
+    let written = write(log, words, bytes, ring);
+    done(written, stayed(log, written, space, ring))
+}
+
 pub fn call(
     state: State,
     words: Words,
@@ -78,8 +86,6 @@ pub fn call(
     ring: &mut [u8],
     space: &mut Space,
 ) -> Called {
-    let was = state.log;
-    slices::copy(ring, space, 0);
-    let written = write(was, words, bytes, ring);
-    done(state, written, stayed(was, written, space, ring))
+    let log = state.log;
+    state::with_log(state, on_log(log, words, bytes, ring, space))
 }
