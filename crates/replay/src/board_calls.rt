@@ -1,19 +1,19 @@
 // The board of a rehearsal, and the script's calls on it.
-use crate::answers::Told;
-use crate::decimals;
-use crate::lent;
-use crate::lent::Space;
 use crate::state;
 use crate::state::BoardCalled;
 use crate::state::Called;
 use crate::state::State;
-use crate::words;
-use crate::words::Bytes;
-use crate::words::Words;
 use board::Answer;
 use board::Board;
 use board::Shown;
 use board::Slot;
+use script::answers::Told;
+use script::decimals;
+use script::lent;
+use script::lent::Space;
+use script::words;
+use script::words::Bytes;
+use script::words::Words;
 
 // The board's buffer.
 pub type Slots = [u8; 7680];

@@ -1,14 +1,14 @@
 // The script's syslog(2) commands. The log's buffer is lent to them as one that none of them can change.
-use crate::answers::Told;
-use crate::decimals;
-use crate::lent;
 use crate::state;
 use crate::state::Called;
 use crate::state::LogCalled;
 use crate::state::State;
-use crate::words;
-use crate::words::Words;
 use log::Log;
+use script::answers::Told;
+use script::decimals;
+use script::lent;
+use script::words;
+use script::words::Words;
 use syslog::Asked;
 use syslog::Commanded;
 
@@ -24,9 +24,9 @@ fn asked(words: Words) -> Asked {
 // What a command tells. Only commands 2 to 4 count bytes of the lent buffer.
 fn told(command: i32, commanded: Commanded) -> Told {
     let answer = commanded.answer;
-    let told = Told::answer(answer);
+    let told = state::answered(answer);
     if (2 <= command) & (command <= 4) {
-        told.with_bytes(lent::counted(answer))
+        told.with_bytes(state::counted(answer))
     } else {
         told
     }

@@ -1,15 +1,7 @@
 // The script's lines, one after the other: each is answered by one line on standard output.
-use crate::answers;
-use crate::answers::Told;
 use crate::board_calls;
 use crate::board_calls::Slots;
 use crate::command_calls;
-use crate::input;
-use crate::input::Chunk;
-use crate::input::Line;
-use crate::input::Unread;
-use crate::lent;
-use crate::lent::Space;
 use crate::log_calls;
 use crate::log_calls::Buffer;
 use crate::reader_calls;
@@ -17,11 +9,19 @@ use crate::renderer_calls;
 use crate::state;
 use crate::state::Called;
 use crate::state::State;
-use crate::vocabulary;
-use crate::vocabulary::Reading;
-use crate::words::Bytes;
-use crate::words::Words;
 use crate::write_calls;
+use script::answers;
+use script::answers::Told;
+use script::input;
+use script::input::Chunk;
+use script::input::Line;
+use script::input::Unread;
+use script::lent;
+use script::lent::Space;
+use script::vocabulary;
+use script::vocabulary::Reading;
+use script::words::Bytes;
+use script::words::Words;
 
 // ---- calls on a log
 

@@ -1,19 +1,19 @@
 // The log of a rehearsal, and the script's calls on the log itself.
-use crate::answers::Told;
-use crate::decimals;
-use crate::lent;
-use crate::lent::Space;
 use crate::state;
 use crate::state::Called;
 use crate::state::State;
-use crate::words;
-use crate::words::Bytes;
-use crate::words::Words;
 use console::Console;
 use log::Log;
 use log::Verdict;
 use record::Seq;
 use ring::Place;
+use script::answers::Told;
+use script::decimals;
+use script::lent;
+use script::lent::Space;
+use script::words;
+use script::words::Bytes;
+use script::words::Words;
 
 // The log's buffer, as long as a script may ask for.
 pub type Buffer = [u8; 70000];

@@ -1,18 +1,11 @@
 // The rehearsal tool: a script of calls on standard input, and one line of answer for each on standard output.
-mod answers;
 mod board_calls;
 mod command_calls;
-mod decimals;
-mod hex;
-mod input;
-mod lent;
 mod lines;
 mod log_calls;
 mod reader_calls;
 mod renderer_calls;
 mod state;
-mod vocabulary;
-mod words;
 mod write_calls;
 
 fn main() {

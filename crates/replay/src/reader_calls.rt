@@ -1,17 +1,17 @@
 // The script's readers. The log's buffer is lent to these as one that none of them can change.
-use crate::answers::Told;
-use crate::decimals;
-use crate::lent;
 use crate::state;
 use crate::state::Called;
 use crate::state::State;
-use crate::words;
-use crate::words::Words;
 use kmsg::Given;
 use kmsg::Reader;
 use kmsg::Sought;
 use log::Log;
 use record::Seq;
+use script::answers::Told;
+use script::decimals;
+use script::lent;
+use script::words;
+use script::words::Words;
 
 const MOST: usize = 16;
 
@@ -37,9 +37,9 @@ fn place(reader: Reader) -> ReaderCalled {
 fn given(given: Given) -> ReaderCalled {
     let answer = given.answer;
     let reader = given.reader;
-    let mut told = Told::answer(answer);
+    let mut told = state::answered(answer);
     told.n1 = given.lost;
-    left(reader, told.with_bytes(lent::counted(answer)))
+    left(reader, told.with_bytes(state::counted(answer)))
 }
 
 fn read(reader: Reader, log: Log, words: Words, ring: &[u8], space: &mut [u8]) -> ReaderCalled {
@@ -50,7 +50,7 @@ fn read(reader: Reader, log: Log, words: Words, ring: &[u8], space: &mut [u8]) -
 fn sought(sought: Sought) -> ReaderCalled {
     let answer = sought.answer;
     let reader = sought.reader;
-    left(reader, Told::answer(answer))
+    left(reader, state::answered(answer))
 }
 
 fn seek(reader: Reader, log: Log, words: Words, ring: &[u8]) -> ReaderCalled {

@@ -1,15 +1,15 @@
 // The renderer's two calls: the line reader and the console question.
-use crate::answers::Told;
-use crate::decimals;
-use crate::lent;
-use crate::lent::Space;
 use crate::state;
 use crate::state::Called;
 use crate::state::State;
-use crate::words;
-use crate::words::Bytes;
-use crate::words::Words;
 use number::Loaded;
+use script::answers::Told;
+use script::decimals;
+use script::lent;
+use script::lent::Space;
+use script::words;
+use script::words::Bytes;
+use script::words::Words;
 
 type Block = [u8; 48];
 

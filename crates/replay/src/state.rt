@@ -1,7 +1,8 @@
 // What a rehearsal keeps from line to line beside its buffers.
-use crate::answers::Told;
 use board::Board;
+use log::Answer;
 use log::Log;
+use script::answers::Told;
 
 pub struct State {
     // a log was made, in a buffer of so many bytes
@@ -75,4 +76,17 @@ pub fn with_board(state: State, called: BoardCalled) -> Called {
     let board = called.board;
     let told = called.told;
     left(state.with_board(board), told)
+}
+
+// What an answer of the log tells.
+pub fn answered(answer: Answer) -> Told {
+    Told::signed(log::answer_number(answer))
+}
+
+// How many bytes of a lent buffer an answer of the log counts.
+pub fn counted(answer: Answer) -> usize {
+    match answer {
+        Answer::Done(n) => n as usize,
+        Answer::No(_) => 0,
+    }
 }

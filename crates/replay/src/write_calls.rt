@@ -1,16 +1,16 @@
 // The script's writes, from outside and from the box.
-use crate::answers::Told;
-use crate::lent;
-use crate::lent::Space;
 use crate::state;
 use crate::state::Called;
 use crate::state::LogCalled;
 use crate::state::State;
-use crate::words;
-use crate::words::Bytes;
-use crate::words::Words;
 use log::Answer;
 use log::Log;
+use script::answers::Told;
+use script::lent;
+use script::lent::Space;
+use script::words;
+use script::words::Bytes;
+use script::words::Words;
 use writes::Written;
 
 fn outside(log: Log, words: Words, bytes: &Bytes, ring: &mut [u8]) -> Written {
@@ -66,7 +66,7 @@ fn stayed(was: Log, written: Written, before: &[u8], after: &[u8]) -> bool {
 fn done(written: Written, stayed: bool) -> LogCalled {
     let log = written.log;
     let answer = written.answer;
-    let mut told = Told::answer(answer);
+    let mut told = state::answered(answer);
     told.n1 = written.dropped;
     told.stayed = stayed;
     LogCalled { log, told }
