@@ -6,3 +6,4 @@ pub mod PartLaws
 pub mod PutReads
 pub mod FillLaws
 pub mod EveryLaws
+pub mod ListedLaws
