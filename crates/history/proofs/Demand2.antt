@@ -6,6 +6,7 @@ use mathlib.Core.Bool.{Bool, true, false}
 use mathlib.Core.List.{List, [], _∷_, _++_}
 use native.Mathlib.Omega.{arith}
 use lib.Dec.{ltb}
+use lib.IntN.{pos}
 use lib.ListN
 use lib.ListN.{length, getD}
 use Rattle.record.specs.Limits.{capacityLeast, capacityMost}
@@ -17,7 +18,6 @@ use Rattle.log.specs.Check.{freshLog, recordsIn, checked, marksOf, viewOf, with
 use Rattle.log.specs.Excess.{excess}
 use Rattle.store.specs.Write.{droppedBy, writtenLog, writtenBuffer}
 use Rattle.log.specs.declared.Verdict.the-variants.{Fine}
-use Rattle.log.specs.declared.Answer.the-variants.{Done}
 use Rattle.store.proofs.StoredLaws.{Storable}
 use Rattle.store.proofs.HoldsLaws.{Holds, goes, grown, dropped-is, length-written, holds-written, written-view}
 use Rattle.store.proofs.MarkLaws.{fine}
@@ -129,7 +129,7 @@ module _ (s : State) (p : Past) (a : Agrees s p) (ok : Sound p) where
       let y = pastWrite p r bytes q in
       (x .reply ≡ y .reply) × Agrees (x .state) (y .past)
   unfolding writeBy pastWrite
-  write-step r bytes allowed h = (ap (wrote (Done bytes)) (told-dropped r (h refl)), agree-write r (h refl))
+  write-step r bytes allowed h = (ap (wrote (pos bytes)) (told-dropped r (h refl)), agree-write r (h refl))
   write-step r bytes (refused why) h = (refl, a)
 
   -- ---- commands
@@ -172,7 +172,7 @@ agree-step s p (read i lent) a ok t =
     let n = getD (p .readers) i 0 in
     let g = readBy (held p) n lent (readRuling (held p) n lent) in
     rw (ruled-is s p a ok (λ v. readRuling v (getD (s .readers) i 0) lent), a .same, ap (λ (l : List ℕ). getD l i 0) (a .readers))
-    (agree-there s p a ok i (g .given .reader .next .0) (replyRead g))
+    (agree-there s p a ok i (g .reader .next .0) (replyRead g))
 agree-step s p (seek i offset whence) a ok t =
     let g = seekBy (held p) (readerAt (getD (p .readers) i 0)) whence (seekRuling offset whence) in
     rw (ruled-is s p a ok (λ v. seekRuling offset whence), a .same, ap (λ (l : List ℕ). getD l i 0) (a .readers))

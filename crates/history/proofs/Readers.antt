@@ -7,16 +7,16 @@ use mathlib.Core.List.{List, [], _∷_, _++_}
 use native.Mathlib.Omega.{arith}
 use borrow.Author.Tests.{lt-ltb, ltb-true, ltb-false, eqb-true, eqb-false}
 use lib.Dec.{ltb, eqb}
+use lib.IntN.{pos}
 use lib.ListN
 use lib.ListN.{length, getD, take, drop, length-append, length-set, List·getD-append}
 use lib.Seq.{take-append-seam, getD-set-same, getD-set-other}
 use Rattle.record.specs.Record.{Record}
 use Rattle.record.specs.Forms.{kmsgLine}
-use Rattle.log.specs.Answer.{Ruling, allowed, refused, rulingOf}
+use Rattle.log.specs.Answer.{refusalNumber, Ruling, allowed, refused, rulingOf}
 use Rattle.log.specs.View.{nextOf, recordAt, noRecord}
 use Rattle.log.specs.declared.Refusal.{Refusal}
 use Rattle.log.specs.declared.Refusal.the-variants.{EBADFD, EINVAL, EPIPE, EAGAIN}
-use Rattle.log.specs.declared.Answer.the-variants.{Done, No}
 use Rattle.writes.specs.Write.{outsideRecord, boxRecord, outsideRuling, boxRuling}
 use Rattle.kmsg.specs.Read.{readerAt, AfterRead, lineAt, readRuling, stay, readRefused, readDone, readBy, seekRuling, seekBy}
 use Rattle.history.specs.Calls.{Call, outside, box, make, place, read, seek, command, check, console, Reply, nobody, replyRead, replySeek, ifThere}
@@ -28,12 +28,12 @@ use Rattle.history.proofs.HeldLaws.{first-in, next-held, record-held}
 
 -- what a read by a reader of this number is
 data Read (p : Past) (n : ℕ) (r : AfterRead) : Type 0 where
-  line : firstHeld p ≤ n → n < length (p .all) → r .given .answer ≡ Done (length (kmsgLine (getD (p .all) n noRecord))) → r .given .lost ≡ 0
-      → r .given .reader ≡ readerAt (n + 1)
+  line : firstHeld p ≤ n → n < length (p .all) → r .answer ≡ pos (length (kmsgLine (getD (p .all) n noRecord))) → r .lost ≡ 0
+      → r .reader ≡ readerAt (n + 1)
       → take (length (kmsgLine (getD (p .all) n noRecord))) (r .lent) ≡ kmsgLine (getD (p .all) n noRecord) → Read p n r
-  gone : n < firstHeld p → r .given .answer ≡ No EPIPE → r .given .lost ≡ firstHeld p - n → r .given .reader ≡ readerAt (firstHeld p) → Read p n r
-  stayed : firstHeld p ≤ n → (why : Refusal) → answerHeard (r .given .lost) (r .lent) (No why) ≡ [] → r .given .answer ≡ No why
-      → r .given .lost ≡ 0 → r .given .reader ≡ readerAt n → Read p n r
+  gone : n < firstHeld p → r .answer ≡ refusalNumber EPIPE → r .lost ≡ firstHeld p - n → r .reader ≡ readerAt (firstHeld p) → Read p n r
+  stayed : firstHeld p ≤ n → (why : Refusal) → answerHeard (r .lost) (r .lent) (refusalNumber why) ≡ [] → r .answer ≡ refusalNumber why
+      → r .lost ≡ 0 → r .reader ≡ readerAt n → Read p n r
 
 module _ (p : Past) (n : ℕ) (lent : List ℕ) where
   abbrev by : Ruling → AfterRead
@@ -51,7 +51,7 @@ module _ (p : Past) (n : ℕ) (lent : List ℕ) where
   read-gone h = gone h refl refl refl
 
   -- any refusal but "overtaken"
-  read-stayed : firstHeld p ≤ n → (why : Refusal) → readRefused (held p) n lent why ≡ stay why n lent → answerHeard 0 lent (No why) ≡ []
+  read-stayed : firstHeld p ≤ n → (why : Refusal) → readRefused (held p) n lent why ≡ stay why n lent → answerHeard 0 lent (refusalNumber why) ≡ []
       → Read p n (by (refused why))
   unfolding readBy
   read-stayed h why e s = stayed h why (rw e s) (rw e) (rw e) (rw e)
@@ -77,7 +77,7 @@ module _ (p : Past) (n : ℕ) (lent : List ℕ) where
           read-line (held-still eb) (omega (arith, ltb-false (nextOf (held p)) n ea, next-held p, eqb-false n (nextOf (held p)) ec))
 
 -- a read by a reader whose record is held
-not-gone : (p : Past) (n : ℕ) (r : AfterRead) → firstHeld p ≤ n → (r .given .answer ≡ No EPIPE → ⊥) → r .given .lost ≡ 0 → Overtaken p n r
+not-gone : (p : Past) (n : ℕ) (r : AfterRead) → firstHeld p ≤ n → (r .answer ≡ refusalNumber EPIPE → ⊥) → r .lost ≡ 0 → Overtaken p n r
 not-gone p n r h w z =
     record {
       only = λ e. absurd (w e);
@@ -99,8 +99,8 @@ overtaken-of p n r (gone h a l m) =
 overtaken-of p n r (stayed l why s a z m) =
     not-gone p n r l
     (λ e.
-    let same : why ≡ EPIPE = cc in
-    let told : lost (r .given .lost) ∷ [] ≡ [] = rw same at s in
+    let same : refusalNumber why ≡ refusalNumber EPIPE = sym a ∙ e in
+    let told : lost (r .lost) ∷ [] ≡ [] = rw same at s in
     let k : _≡_ {A = ℕ} 0 1 = cc in
     omega arith)
     z
@@ -181,7 +181,7 @@ module _ (p : Past) (i : ℕ) (h : i < length (p .readers)) where
   keeps-step (place j n) l = keeps-set j n l
   keeps-step (read j lent) l =
       let g = readBy (held p) (getD (p .readers) j 0) lent (readRuling (held p) (getD (p .readers) j 0) lent) in
-      keeps-there j (g .given .reader .next .0) (ltb j (length (p .readers))) (replyRead g) l
+      keeps-there j (g .reader .next .0) (ltb j (length (p .readers))) (replyRead g) l
   keeps-step (seek j offset whence) l =
       let g = seekBy (held p) (readerAt (getD (p .readers) j 0)) whence (seekRuling offset whence) in
       keeps-there j (g .reader .next .0) (ltb j (length (p .readers))) (replySeek g) l
@@ -203,10 +203,10 @@ unfolding Adds
 keeps-adds all p i q k = (k .there, λ hs o. rw (k .number) at o)
 
 heard-of : (all : List Record) (p : Past) (n : ℕ) (r : AfterRead) → Extends (p .all) all → Read p n r
-    → (hs : List Heard) → InOrder all (r .given .reader .next .0) hs → InOrder all n (answerHeard (r .given .lost) (r .lent) (r .given .answer) ++ hs)
+    → (hs : List Heard) → InOrder all (r .reader .next .0) hs → InOrder all n (answerHeard (r .lost) (r .lent) (r .answer) ++ hs)
 heard-of all p n r x (line l h a z m t) hs o = rw a (omega (arith, x .long), t ∙ ap kmsgLine (sym (x .same n h)), rw m at o)
 heard-of all p n r x (gone h a l m) hs o =
-    let e : n + r .given .lost ≡ firstHeld p = omega arith in
+    let e : n + r .lost ≡ firstHeld p = omega arith in
     rw a (omega arith, rw e (rw m at o))
 heard-of all p n r x (stayed l why s a z m) hs o = rw (a, s) (rw m at o)
 
@@ -227,10 +227,10 @@ read-adds all p i j lent h x = go _ refl
         rw (lt-ltb j (length (p .readers)) hj, k) (
           simp length-set hj,
           λ hs o.
-              heard-of all p (getD (p .readers) j 0) r x (read-is p (getD (p .readers) j 0) lent) hs (rw (getD-set-same (p .readers) j (r .given .reader .next .0) 0 hj) at o),
+              heard-of all p (getD (p .readers) j 0) r x (read-is p (getD (p .readers) j 0) lent) hs (rw (getD-set-same (p .readers) j (r .reader .next .0) 0 hj) at o),
         )
     go false e =
-        let k = keeps-there p i h j (r .given .reader .next .0) (ltb j (length (p .readers))) (replyRead r) (λ f. eqb-false j i e (sym f)) in
+        let k = keeps-there p i h j (r .reader .next .0) (ltb j (length (p .readers))) (replyRead r) (λ f. eqb-false j i e (sym f)) in
         (k .there, λ hs o. rw (k .number) at o)
 
 step-adds : (all : List Record) (p : Past) (i : ℕ) (c : Call) → i < length (p .readers) → Leaves i c → Extends (p .all) all

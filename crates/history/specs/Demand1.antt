@@ -1,25 +1,41 @@
--- Demand 1, as one statement: over every log, every buffer, all readers and every call, a refusal leaves the log, the marks and
--- all buffers as they were; one thing may move: a reader told that it was overtaken is set to the oldest record left.
+-- Demand 1, of the log: over every log, every buffer, all readers and every call, an answer is a count or a number of document 01's table, and
+-- a refusal leaves the log, the marks and all buffers as they were; one thing may move: a reader told that it was overtaken is set to the
+-- oldest record left.
 use Prim.Native.Nat.{ℕ}
 use mathlib.Core.Path.{_≡_}
-use mathlib.Core.List.{List, []}
+use mathlib.Core.Bool.{Bool, true, false, cond}
+use mathlib.Core.List.{List, [], _∷_}
+use lib.Dec.{eqb}
+use lib.IntN.{ℤ, pos, negsuc}
 use lib.ListN
-use Rattle.log.specs.declared.Refusal.{Refusal}
-use Rattle.log.specs.declared.Refusal.the-variants.{EBADFD, EPERM, ESPIPE, EINVAL, EFAULT, EOVERFLOW, EPIPE, EAGAIN}
-use Rattle.log.specs.declared.Answer.the-variants.{No}
+use Rattle.slices.specs.Listed.{In}
 use Rattle.history.specs.Calls.{Call, outside, box, make, place, read, seek, command, check, console, Reply, wrote, made, set, gave, sought, told, verdict, shown, nobody, State, withReaders, step}
 
--- the reply refuses, for this reason
-abbrev pub Refuses : Reply → Refusal → Type 0
-Refuses (wrote a dropped) r = a ≡ No r
-Refuses (made n) r = ⊥
-Refuses set r = ⊥
-Refuses (gave a lost n lent) r = a ≡ No r
-Refuses (sought a n) r = a ≡ No r
-Refuses (told a lent) r = a ≡ No r
-Refuses (verdict x) r = ⊥
-Refuses (shown b) r = ⊥
-Refuses nobody r = ⊥
+-- the reply answers this number; a call that only makes a reader, sets one, checks the log or asks the console question answers none
+abbrev pub Answers : Reply → ℤ → Type 0
+Answers (wrote a dropped) n = a ≡ n
+Answers (made m) n = ⊥
+Answers set n = ⊥
+Answers (gave a lost m lent) n = a ≡ n
+Answers (sought a m) n = a ≡ n
+Answers (told a lent) n = a ≡ n
+Answers (verdict x) n = ⊥
+Answers (shown b) n = ⊥
+Answers nobody n = ⊥
+
+-- document 01's table "When the log says no": -77, -1, -29, -22, -14, -75, -32, -11 (negsuc n is -(n + 1))
+abbrev pub tableNumbers : List ℤ
+tableNumbers = negsuc 76 ∷ negsuc 0 ∷ negsuc 28 ∷ negsuc 21 ∷ negsuc 13 ∷ negsuc 74 ∷ negsuc 31 ∷ negsuc 10 ∷ []
+
+-- a count, or a number of the table
+abbrev pub Known : ℤ → Type 0
+Known (pos n) = Unit {0}
+Known (negsuc n) = In (negsuc n) tableNumbers
+
+-- -32
+abbrev pub tellsOvertaken : ℤ → Bool
+tellsOvertaken (pos n) = false
+tellsOvertaken (negsuc n) = eqb n 31
 
 -- the lent buffer that is handed over, and as it comes back
 abbrev pub lentTo : Call → List ℕ
@@ -44,29 +60,24 @@ lentBack (verdict x) = []
 lentBack (shown b) = []
 lentBack nobody = []
 
--- a reader told -32 on a read is set to first
-abbrev pub movedBy : State → ℕ → Refusal → State
-movedBy s i EPIPE = withReaders s (lib.ListN.set (s .readers) i (s .log .first .0))
-movedBy s i EBADFD = s
-movedBy s i EPERM = s
-movedBy s i ESPIPE = s
-movedBy s i EINVAL = s
-movedBy s i EFAULT = s
-movedBy s i EOVERFLOW = s
-movedBy s i EAGAIN = s
+-- what a refusal leaves: a reader told -32 on a read is set to first
+abbrev pub leftBy : State → Call → ℤ → State
+leftBy s (outside time bytes) n = s
+leftBy s (box facility level time text dictionary) n = s
+leftBy s make n = s
+leftBy s (place i m) n = s
+leftBy s (read i lent) n = cond (tellsOvertaken n) (withReaders s (lib.ListN.set (s .readers) i (s .log .first .0))) s
+leftBy s (seek i offset whence) n = s
+leftBy s (command a lent) n = s
+leftBy s check n = s
+leftBy s (console level setting) n = s
 
--- what a refusal leaves
-abbrev pub leftBy : State → Call → Refusal → State
-leftBy s (outside time bytes) r = s
-leftBy s (box facility level time text dictionary) r = s
-leftBy s make r = s
-leftBy s (place i n) r = s
-leftBy s (read i lent) r = movedBy s i r
-leftBy s (seek i offset whence) r = s
-leftBy s (command a lent) r = s
-leftBy s check r = s
-leftBy s (console level setting) r = s
+-- a call on this state, which answers this number
+pub record Kept (s : State) (c : Call) (n : ℤ) : Type 0 where
+  pub known : Known n
+  -- below 0
+  pub state : (k : ℕ) → n ≡ negsuc k → step s c .state ≡ leftBy s c n
+  pub lent : (k : ℕ) → n ≡ negsuc k → lentBack (step s c .reply) ≡ lentTo c
 
 abbrev pub Demand1 : Type 0
-Demand1 = (s : State) (c : Call) (r : Refusal) → Refuses (step s c .reply) r
-    → (step s c .state ≡ leftBy s c r) × (lentBack (step s c .reply) ≡ lentTo c)
+Demand1 = (s : State) (c : Call) (n : ℤ) → Answers (step s c .reply) n → Kept s c n

@@ -4,30 +4,29 @@ use mathlib.Core.Path.{_≡_}
 use mathlib.Core.Bool.{cond}
 use mathlib.Core.List.{List, [], _∷_, _++_}
 use lib.Dec.{eqb}
-use lib.IntN.{pos}
+use lib.IntN.{ℤ, pos, negsuc}
 use lib.ListN.{length, getD, take, drop}
 use Rattle.record.specs.Limits.{capacityLeast, capacityMost}
 use Rattle.record.specs.Record.{Record}
 use Rattle.record.specs.Forms.{kmsgLine}
+use Rattle.log.specs.Answer.{refusalNumber}
 use Rattle.log.specs.View.{Marks, noRecord}
-use Rattle.log.specs.declared.Refusal.{Refusal}
-use Rattle.log.specs.declared.Refusal.the-variants.{EBADFD, EPERM, ESPIPE, EINVAL, EFAULT, EOVERFLOW, EPIPE, EAGAIN}
-use Rattle.log.specs.declared.Answer.{Answer}
-use Rattle.log.specs.declared.Answer.the-variants.{Done, No}
+use Rattle.log.specs.declared.Refusal.the-variants.{EPIPE}
 use Rattle.kmsg.specs.Read.{readerAt, AfterRead, readRuling, readBy, reading}
 use Rattle.syslog.specs.Command.{unread, marksAfter}
 use Rattle.history.specs.Calls.{Call, outside, box, make, place, read, seek, command, check, console, Reply, wrote, made, set, gave, sought, told, verdict, shown, nobody, run, stateAfter}
 use Rattle.history.specs.Past.{Past, firstHeld, held, pastStep, pastRun, pastAfter, freshPast}
+use Rattle.history.specs.Demand1.{tellsOvertaken}
 use Rattle.history.specs.Demand2.{fresh, AllTimed}
 
 -- ---- told "overtaken" exactly when the next record is gone, with the number lost equal to the gap
 
 pub record Overtaken (p : Past) (number : ℕ) (r : AfterRead) : Type 0 where
-  pub only : r .given .answer ≡ No EPIPE → number < firstHeld p
-  pub always : number < firstHeld p → r .given .answer ≡ No EPIPE
-  pub gap : number < firstHeld p → r .given .lost ≡ firstHeld p - number
-  pub moved : number < firstHeld p → r .given .reader ≡ readerAt (firstHeld p)
-  pub none : firstHeld p ≤ number → r .given .lost ≡ 0
+  pub only : r .answer ≡ refusalNumber EPIPE → number < firstHeld p
+  pub always : number < firstHeld p → r .answer ≡ refusalNumber EPIPE
+  pub gap : number < firstHeld p → r .lost ≡ firstHeld p - number
+  pub moved : number < firstHeld p → r .reader ≡ readerAt (firstHeld p)
+  pub none : firstHeld p ≤ number → r .lost ≡ 0
 
 abbrev pub OvertakenExactly : Type 0
 OvertakenExactly = (p : Past) (number : ℕ) (lent : List ℕ) → Overtaken p number (readBy (held p) number lent (readRuling (held p) number lent))
@@ -39,19 +38,10 @@ pub data Heard : Type 0 where
   got : List ℕ → Heard
   lost : ℕ → Heard
 
-abbrev pub refusalHeard : ℕ → Refusal → List Heard
-refusalHeard n EPIPE = lost n ∷ []
-refusalHeard n EBADFD = []
-refusalHeard n EPERM = []
-refusalHeard n ESPIPE = []
-refusalHeard n EINVAL = []
-refusalHeard n EFAULT = []
-refusalHeard n EOVERFLOW = []
-refusalHeard n EAGAIN = []
-
-abbrev pub answerHeard : ℕ → List ℕ → Answer → List Heard
-answerHeard n lent (Done k) = got (take k lent) ∷ []
-answerHeard n lent (No why) = refusalHeard n why
+-- by a read's answer: a count, or a number below 0 (negsuc k is -(k + 1))
+abbrev pub answerHeard : ℕ → List ℕ → ℤ → List Heard
+answerHeard n lent (pos k) = got (take k lent) ∷ []
+answerHeard n lent (negsuc k) = cond (tellsOvertaken (negsuc k)) (lost n ∷ []) []
 
 abbrev pub replyHeard : Reply → List Heard
 replyHeard (wrote a dropped) = []
