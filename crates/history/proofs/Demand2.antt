@@ -63,7 +63,7 @@ module _ (s : State) (p : Past) (a : Agrees s p) (ok : Sound p) where
   level-is = ap (λ (m : Marks). m .level) marks-are
 
   -- the log check passes, and the call goes on from what the history holds
-  is-fine : checked (s .log) (s .buffer) ≡ Fine
+  pub is-fine : checked (s .log) (s .buffer) ≡ Fine
   unfolding held
   is-fine = fine (s .log) (s .buffer) (held p .records) (a .holds) (rw (marks-are, first-is) (ok .marked)) (rw capacity-is (ok .large)) (a .small)
 

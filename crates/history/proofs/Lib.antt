@@ -4,4 +4,7 @@ pub mod DropsFew
 pub mod Readers
 pub mod SoundLaws
 pub mod Demand2
+pub mod ListedTests
+pub mod ListedProof
+pub mod ListedRuns
 pub mod OnTheLog
