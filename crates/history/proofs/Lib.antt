@@ -7,4 +7,5 @@ pub mod Demand2
 pub mod ListedTests
 pub mod ListedProof
 pub mod ListedRuns
+pub mod WrongProof
 pub mod OnTheLog

@@ -252,12 +252,12 @@ module _ (failing : Type 0) (bad : Bool) (bs : bad ≡ true → failing) (bc : f
 
 -- ---- the ruling is the first row whose test holds
 
-abbrev numberBy : ℤ → Ruling → ℤ
+abbrev pub numberBy : ℤ → Ruling → ℤ
 numberBy done allowed = done
 numberBy done (refused why) = refusalNumber why
 
 -- the log check comes first
-abbrev checkedFirst : Bool → Ruling → Ruling
+abbrev pub checkedFirst : Bool → Ruling → Ruling
 checkedFirst true q = refused EBADFD
 checkedFirst false q = q
 
@@ -318,7 +318,7 @@ abbrev code : ℤ → ℕ
 code (pos n) = 0
 code (negsuc n) = n + 1
 
-rows-apart : (c : Call) (k : ℕ) → Numbered (order c) refusalNumber (pos k)
+pub rows-apart : (c : Call) (k : ℕ) → Numbered (order c) refusalNumber (pos k)
 rows-apart (outside time bytes) k = numbered code table refusalNumber (pos k) refl
 rows-apart (box facility level time text dictionary) k = numbered code table refusalNumber (pos k) refl
 rows-apart make k = numbered code table refusalNumber (pos k) refl
@@ -347,7 +347,7 @@ fine-of Fine e = refl
 fine-of Numbers e = absurd (true≢false e)
 fine-of (Heading i) e = absurd (true≢false e)
 
-by-check : (log : Log) (buffer : List ℕ) (ruling : View → Ruling)
+pub by-check : (log : Log) (buffer : List ℕ) (ruling : View → Ruling)
     → ruled log buffer ruling ≡ checkedFirst (isBad (checked log buffer)) (ruling (viewOf log buffer))
 unfolding ruled
 by-check log buffer ruling = go (checked log buffer)
@@ -357,7 +357,7 @@ by-check log buffer ruling = go (checked log buffer)
     go Numbers = refl
     go (Heading i) = refl
 
-write-number : (log : Log) (buffer : List ℕ) (r : Record) (bytes : ℕ) (q : Ruling) → writeBy log buffer r bytes q .answer ≡ numberBy (pos bytes) q
+pub write-number : (log : Log) (buffer : List ℕ) (r : Record) (bytes : ℕ) (q : Ruling) → writeBy log buffer r bytes q .answer ≡ numberBy (pos bytes) q
 unfolding writeBy
 write-number log buffer r bytes allowed = refl
 write-number log buffer r bytes (refused why) = refl
@@ -383,7 +383,7 @@ unfolding seekBy
 seek-number v r whence allowed = refl
 seek-number v r whence (refused why) = refl
 
-command-number : (v : View) (a : Asked) (lent : List ℕ) (q : Ruling)
+pub command-number : (v : View) (a : Asked) (lent : List ℕ) (q : Ruling)
     → commandBy v a lent q .answer ≡ numberBy (pos (count v (a .command) (natural (a .len)))) q
 unfolding commandBy
 command-number v a lent allowed = refl

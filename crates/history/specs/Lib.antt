@@ -3,4 +3,5 @@ pub mod Past
 pub mod Demand1
 pub mod Demand2
 pub mod Listed
+pub mod Wrong
 pub mod Readers

@@ -1,0 +1,192 @@
+-- Each of the wrong logs answers one call otherwise than the table lists, on a log that holds nothing.
+use Prim.Native.Nat.{ℕ, _+_, _-_, _<_}
+use mathlib.Core.Path.{_≡_, refl, ap, sym, _∙_}
+use mathlib.Core.Logic.{inl, inr}
+use mathlib.Core.Bool.{true, false}
+use mathlib.Core.List.{List, [], _∷_}
+use native.Mathlib.Omega.{arith}
+use lib.IntN.{ℤ, pos, negsuc}
+use lib.ListN.{length, replicate}
+use Rattle.slices.specs.Tests.{allBytes}
+use Rattle.slices.specs.Listed.{Earlier, In}
+use Rattle.record.specs.Limits.{payloadMost, wordMost}
+use Rattle.ring.specs.Ring.{unrolled}
+use Rattle.log.specs.Answer.{refusalNumber, Ruling, allowed, refused, natural}
+use Rattle.log.specs.View.{View, nextOf}
+use Rattle.log.specs.Check.{checked, viewOf, marksOf, recordsIn, ruled}
+use Rattle.log.specs.declared.Log.{Log}
+use Rattle.log.specs.declared.Verdict.the-variants.{Fine}
+use Rattle.log.specs.declared.Refusal.{Refusal}
+use Rattle.log.specs.declared.Refusal.the-variants.{EBADFD, EPERM, ESPIPE, EINVAL, EFAULT, EOVERFLOW, EPIPE, EAGAIN}
+use Rattle.store.proofs.HoldsLaws.{Holds}
+use Rattle.store.proofs.MarkLaws.{Marked, fine}
+use Rattle.writes.specs.Write.{outsideRuling, writeBy, outsideWrite}
+use Rattle.syslog.specs.Command.{commandRuling, count, commandBy, commanding}
+use Rattle.syslog.specs.declared.Asked.{Asked}
+use Rattle.history.specs.Calls.{Call, outside, box, make, place, read, seek, command, check, console, State, step}
+use Rattle.history.specs.Listed.{Open, Applies, check-fails, without-privilege, over-960, outside-at-last, table, Listed, AsListed, answered}
+use Rattle.history.specs.Wrong.{ruledBy, refuseAll, overflowFirst, oneByteMore, invalidFirst, WrongRefused}
+use Rattle.history.proofs.ListedProof.{numberBy, rows-apart, by-check, write-number, command-number}
+
+-- a log that holds nothing, with n its next number
+empty : ℕ → State
+empty n =
+    record {
+      log = record {
+        start = record { 0 = 0 };
+        used = 0;
+        first = record { 0 = n };
+        next = record { 0 = n };
+        clear = record { 0 = n };
+        position = record { 0 = n };
+        offset = 0;
+        console = record { level = 7 };
+      };
+      buffer = replicate 1024 0;
+      readers = [];
+    }
+
+empty-fine : (n : ℕ) → checked (empty n .log) (empty n .buffer) ≡ Fine
+unfolding empty marksOf unrolled
+empty-fine n =
+    fine (empty n .log) (empty n .buffer) []
+    (record { within = record { start-in = omega arith; used-in = omega arith }; bytes = refl; numbered = tt; next = omega arith })
+    (record {
+      clear-in = omega arith;
+      position-fits = record { in-range = omega arith; at-next = λ e. refl; inside = λ l h. absurd (omega arith); small = omega arith };
+      level-low = omega arith;
+      level-high = omega arith;
+    })
+    (omega arith) (omega arith)
+
+abbrev view : ℕ → View
+view n = viewOf (empty n .log) (empty n .buffer)
+
+next-is : (n : ℕ) → nextOf (view n) ≡ n
+unfolding empty nextOf viewOf recordsIn
+next-is n =
+    let z : n - n ≡ 0 = omega arith in
+    rw z (omega arith)
+
+-- its log check passes, so that the ruling decides
+by-ruling : (n : ℕ) (ruling : View → Ruling) → ruled (empty n .log) (empty n .buffer) ruling ≡ ruling (view n)
+by-ruling n ruling = rw (by-check (empty n .log) (empty n .buffer) ruling, empty-fine n)
+
+bytes-of : (n : ℕ) → allBytes (empty n .buffer) ≡ true
+unfolding empty
+bytes-of n = refl
+
+-- a count is not below 0, and numbers that differ stay so
+never : (n k : ℕ) → pos n ≡ negsuc k → ⊥
+never n k e =
+    let z : _≡_ {A = ℕ} 0 1 = cc in
+    omega arith
+
+other : (n k : ℕ) → pos n ≡ pos k → (n ≡ k → ⊥) → ⊥
+other n k e h =
+    let z : n ≡ k = cc in
+    h z
+
+module _ (onWrite : View → List ℕ → Ruling) (onCommand : View → Asked → List ℕ → Ruling) (f : AsListed (ruledBy onWrite onCommand)) (n : ℕ) where
+  -- what a write and a command answer there
+  module _ (bytes : List ℕ) (q : Ruling) (e : onWrite (view n) bytes ≡ q) where
+    abbrev written : Listed (checked (empty n .log) (empty n .buffer) ≡ Fine → ⊥) (view n) (empty n .readers) (outside 0 bytes) (ruledBy onWrite onCommand (empty n) (outside 0 bytes))
+    written = f (empty n) (bytes-of n) (outside 0 bytes) tt
+
+    write-answers : numberBy (pos (length bytes)) q ≡ written .answer
+    write-answers =
+        ap (numberBy (pos (length bytes))) (sym e ∙ sym (by-ruling n (λ v. onWrite v bytes)))
+        ∙ sym (write-number (empty n .log) (empty n .buffer) _ (length bytes) _)
+        ∙ written .answers
+
+  module _ (a : Asked) (q : Ruling) (e : onCommand (view n) a [] ≡ q) where
+    abbrev commanded : Listed (checked (empty n .log) (empty n .buffer) ≡ Fine → ⊥) (view n) (empty n .readers) (command a []) (ruledBy onWrite onCommand (empty n) (command a []))
+    commanded = f (empty n) (bytes-of n) (command a []) tt
+
+    command-answers : numberBy (pos (count (view n) (a .command) (natural (a .len)))) q ≡ commanded .answer
+    command-answers =
+        ap (numberBy (pos (count (view n) (a .command) (natural (a .len))))) (sym e ∙ sym (by-ruling n (λ v. onCommand v a [])))
+        ∙ sym (command-number (view n) a [] _)
+        ∙ commanded .answers
+
+-- ---- each of them
+
+no-write-over : {failing : Type 0} {v : View} {readers : List ℕ} → Applies failing v readers (outside 0 []) EINVAL → ⊥
+no-write-over h = elim h [ over-960 g ↦ absurd (omega arith) ]
+
+all-refused : AsListed (ruledBy refuseAll commandRuling) → ⊥
+all-refused f =
+    let x = written refuseAll commandRuling f 0 [] (refused EINVAL) refl in
+    no-write-over (x .exactly .only EINVAL (inr (inr (inr (inl refl)))) (sym (write-answers refuseAll commandRuling f 0 [] (refused EINVAL) refl)) .0)
+
+long : List ℕ
+long = replicate 961 0
+
+long-over : {failing : Type 0} {v : View} {readers : List ℕ} → Applies failing v readers (outside 0 long) EINVAL
+unfolding long
+long-over =
+    let h : payloadMost < length long = omega arith in
+    over-960 h
+
+overflow-refused : AsListed (ruledBy overflowFirst commandRuling) → ⊥
+overflow-refused f =
+    let e : overflowFirst (view wordMost) long ≡ refused EOVERFLOW = rw (next-is wordMost) in
+    let x = written overflowFirst commandRuling f wordMost long (refused EOVERFLOW) e in
+    x .exactly .only EOVERFLOW (inr (inr (inr (inr (inr (inl refl))))))
+    (sym (write-answers overflowFirst commandRuling f wordMost long (refused EOVERFLOW) e))
+    .1 EINVAL (inr (inr (inr (inl (refl, inr (inl refl)))))) long-over
+
+-- no row before -22 applies to it, on the log whose next number is 0
+abbrev Row : Refusal → Type 0
+Row e = Applies (checked (empty 0 .log) (empty 0 .buffer) ≡ Fine → ⊥) (view 0) (empty 0 .readers) (outside 0 long) e
+
+none-before : (e : Refusal) → Earlier e EINVAL table → Row e → ⊥
+none-before EBADFD k h = elim h [ check-fails g ↦ g (empty-fine 0) ]
+none-before EPERM k h = elim h [ ]
+none-before ESPIPE k h = elim h [ ]
+none-before EINVAL k h = rows-apart (outside 0 long) 0 .once EINVAL k
+none-before EFAULT k h = elim h [ ]
+none-before EOVERFLOW k h = elim h [ outside-at-last e ↦ absurd (omega (arith, e, next-is 0)) ]
+none-before EPIPE k h = elim h [ ]
+none-before EAGAIN k h = elim h [ ]
+
+byte-refused : AsListed (ruledBy oneByteMore commandRuling) → ⊥
+unfolding long
+byte-refused f =
+    let e : oneByteMore (view 0) long ≡ allowed = rw (next-is 0) in
+    let x = written oneByteMore commandRuling f 0 long allowed e in
+    let y : x .answer ≡ refusalNumber EINVAL = x .exactly .always EINVAL (inr (inr (inr (inl refl)))) long-over none-before in
+    never 961 21 (write-answers oneByteMore commandRuling f 0 long allowed e ∙ y)
+
+poor : Asked
+poor = record { command = pos 11; len = pos 0; privilege = false; restriction = true }
+
+not-open : Open poor → ⊥
+unfolding poor
+not-open o = elim (o .type) [
+  | inl e ↦ other 11 3 e (omega arith)
+  | inr e ↦ other 11 10 e (omega arith)
+]
+
+invalid-refused : AsListed (ruledBy outsideRuling invalidFirst) → ⊥
+unfolding poor
+invalid-refused f =
+    let x = commanded outsideRuling invalidFirst f 0 poor (refused EINVAL) refl in
+    x .exactly .only EINVAL (inr (inr (inr (inl refl)))) (sym (command-answers outsideRuling invalidFirst f 0 poor (refused EINVAL) refl))
+    .1 EPERM (inr (inl (refl, inr (inl refl)))) (without-privilege refl not-open)
+
+ours : (s : State) (c : Call) → ruledBy outsideRuling commandRuling s c ≡ answered s c
+unfolding step outsideWrite commanding
+ours s (outside time bytes) = refl
+ours s (box facility level time text dictionary) = refl
+ours s make = refl
+ours s (place i n) = refl
+ours s (read i lent) = refl
+ours s (seek i offset whence) = refl
+ours s (command a lent) = refl
+ours s check = refl
+ours s (console level setting) = refl
+
+pub wrong-refused : WrongRefused
+wrong-refused =
+    record { ours = ours; all = all-refused; overflow = overflow-refused; byte = byte-refused; invalid = invalid-refused }
