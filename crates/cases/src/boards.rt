@@ -1,6 +1,5 @@
 // The board: "board buffer not 7,680 or a slot's text length over 960".
 use crate::say;
-use board::Answer;
 use board::Board;
 use board::Shown;
 use board::Slot;
@@ -33,13 +32,6 @@ fn kept(board: Board, length: usize) -> bool {
     shows(slots[0], 0, 0) & shows(slots[7], 9, length)
 }
 
-fn number(answer: Answer) -> u32 {
-    match answer {
-        Answer::Accepted => 0,
-        Answer::Refused(number) => number,
-    }
-}
-
 // T14's message, for channel 16, delivered to such a board.
 fn deliver(buffer: &mut [u8], length: usize) {
     say::named(b"board, buffer ", buffer.len());
@@ -47,7 +39,10 @@ fn deliver(buffer: &mut [u8], length: usize) {
     let t = board::deliver(showing(length), buffer, b"134,7,1,-;1-0\n");
     let answer = t.answer;
     let after = t.board;
-    say::answer(number(answer), say::stayed(buffer) & kept(after, length));
+    say::answer(
+        board::answer_number(answer),
+        say::stayed(buffer) & kept(after, length),
+    );
 }
 
 pub fn all() {

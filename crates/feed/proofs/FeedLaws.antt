@@ -4,7 +4,7 @@ use mathlib.Core.Path.{_≡_, refl, ap, _∙_}
 use mathlib.Core.List.{List, [], _∷_}
 use native.Mathlib.Omega.{arith}
 use lib.ListN.{length, take, drop, replicate, length-drop}
-use Rattle.board.specs.Board.{emptySlot, fresh, Delivered, deliver, left, state}
+use Rattle.board.specs.Board.{emptySlot, fresh, Delivered, deliver, answerNumber, left, state}
 use Rattle.board.specs.declared.Slot.{Slot}
 use Rattle.board.specs.declared.Told.{Told}
 use Rattle.feed.specs.Feed.{messages, messageLength, Fed, fed, countRefused, feedAll}
@@ -54,11 +54,11 @@ module _ {input buffer₀ : List ℕ} {slots : List Slot} {buffer : List ℕ} {r
       next-shorter =
           omega (arith, ap length next-is, length-drop (messageLength rest) rest, message-inside rest some .within)
 
-      pub feed-on : {m buffer′ : List ℕ} {told : Told} {k : ℕ} → m ≡ take n rest → left told buffer′ ≡ deliver (state slots buffer) m
-          → (k ≡ countRefused (told .answer)) × (k ≤ 1) → length buffer′ ≡ length buffer
+      pub feed-on : (told : Told) {m buffer′ : List ℕ} {k : ℕ} → m ≡ take n rest → left told buffer′ ≡ deliver (state slots buffer) m
+          → (k ≡ countRefused (answerNumber (told .answer))) × (k ≤ 1) → length buffer′ ≡ length buffer
           → Feeding input buffer₀ (told .board .slots) buffer′ (refused + k) next
       unfolding after
-      feed-on {m} {buffer′} {told} {k} t l q b =
+      feed-on told {m} {buffer′} {k} t l q b =
           let f : deliver (state slots buffer) m ≡ deliver (state slots buffer) (take (messageLength rest) rest) = rw (t, e) in
           record {
             count = omega (arith, r .count, next-shorter, message-some, q .1);

@@ -22,8 +22,6 @@ use Rattle.board.specs.Board.{State, channels, emptySlot, fresh, slot, slotSize
 use Rattle.board.specs.declared.Shown.{Shown}
 use Rattle.board.specs.declared.Shown.the-variants.{Nothing as nothing, Record as recordOf}
 use Rattle.board.specs.declared.Slot.{Slot}
-use Rattle.board.specs.declared.Answer.{Answer}
-use Rattle.board.specs.declared.Answer.the-variants.{Accepted as accepted, Refused as refused}
 use Rattle.feed.specs.Feed.{inputMost, messages, Fed, countRefused, feedAll, shownText, lineOf, channelLine, channelLines, report, output}
 use Rattle.feed.specs.Longest.{lineMost, reportMost, LongestReport}
 
@@ -94,7 +92,7 @@ unfolding deliver show
 deliver-small b m e = go (eqb (boardRefusal b m) 0) refl
   where
     go : (t : Bool) → eqb (boardRefusal b m) 0 ≡ t
-        → every small (cond {A = Delivered} t (record { answer = accepted; board = show b (reading m) }) (record { answer = refused (boardRefusal b m); board = b }) .board .slots) ≡ true
+        → every small (cond {A = Delivered} t (record { answer = 0; board = show b (reading m) }) (record { answer = boardRefusal b m; board = b }) .board .slots) ≡ true
     go true q =
         let f = no-refusal m (no-board-refusal b m (eqb-true (boardRefusal b m) 0 q)) in
         every-set small (b .slots) e (channel (reading m .prefix)) _ (rw (text-fits m (f .1), number-fits m (f .0)))
@@ -106,9 +104,12 @@ feed-small b n [] e = e
 feed-small b n (m ∷ ms) e =
     feed-small (deliver b m .board) (n + countRefused (deliver b m .answer)) ms (deliver-small b m e)
 
-counts-one : (a : Answer) → countRefused a ≤ 1
-counts-one accepted = omega arith
-counts-one (refused n) = omega arith
+counts-one : (answer : ℕ) → countRefused answer ≤ 1
+counts-one answer = go (eqb answer 0)
+  where
+    go : (t : Bool) → cond t 0 1 ≤ 1
+    go true = omega arith
+    go false = omega arith
 
 feed-count : (b : State) (n : ℕ) (ms : List (List ℕ)) → feedAll b n ms .refused ≤ n + length ms
 unfolding feedAll

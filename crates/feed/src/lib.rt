@@ -10,7 +10,7 @@ ghost use Prim.Native.Nat.{_+_, _*_, _≤_, _<_};
 ghost use lib.ListN.{length, take, drop};
 ghost use Rattle.slices.specs.Put.{left, placed};
 ghost use Rattle.escape.specs.Answers.{Written};
-ghost use Rattle.board.specs.Board.{channels, slotSize, fresh, state};
+ghost use Rattle.board.specs.Board.{channels, slotSize, answerNumber, fresh, state};
 ghost use Rattle.feed.specs.Feed.{messages, messageLength, fed, countRefused, feedAll, channelLines, report, output, bufferAfter};
 ghost use Rattle.feed.specs.Printing.{measured, field, shownLine, refusedLine};
 
@@ -51,11 +51,12 @@ pub fn message_length(s: &[u8]) -> usize
 
 // 1 for a refusal, 0 for none.
 fn count_refused(answer: Answer) -> u64
-    ensures { λ r. ⌜ (r ≡ countRefused answer) × (r ≤ 1) ⌝ }
+    ensures { λ r. ⌜ (r ≡ countRefused (answerNumber answer)) × (r ≤ 1) ⌝ }
 {
-    match answer {
-        Answer::Accepted => 0,
-        Answer::Refused(_) => 1,
+    if board::answer_number(answer) == 0 {
+        0
+    } else {
+        1
     }
 }
 

@@ -3,7 +3,6 @@ use crate::state;
 use crate::state::BoardCalled;
 use crate::state::Called;
 use crate::state::State;
-use board::Answer;
 use board::Board;
 use board::Shown;
 use board::Slot;
@@ -27,13 +26,6 @@ const CHANNEL: u64 = 16;
 pub fn fresh(state: State, words: Words, slots: &mut Slots) -> Called {
     lent::fill(slots, decimals::byte(words.w1.n));
     state::left(state.with_board(Board::new()), Told::form(0))
-}
-
-fn answer_number(answer: Answer) -> u64 {
-    match answer {
-        Answer::Accepted => 0,
-        Answer::Refused(refusal) => refusal as u64,
-    }
 }
 
 fn same_shown(a: Shown, b: Shown) -> bool {
@@ -76,7 +68,7 @@ fn stayed(was: Board, board: Board, before: &[u8], after: &[u8]) -> bool {
 fn done(delivered: board::Told, stayed: bool) -> BoardCalled {
     let board = delivered.board;
     let answer = delivered.answer;
-    let told = Told::number(answer_number(answer)).marked(stayed);
+    let told = Told::number(board::answer_number(answer) as u64).marked(stayed);
     BoardCalled { board, told }
 }
 

@@ -48,7 +48,7 @@ loop-less c =
 loop-again : tie.Need-loop-again Inv-loop μ-loop
 loop-again c =
     let d = c .before .before .before .before .before .deliver in
-    feed-on (c .before .before .before .before .before .before .before .before .before .before .loop .inv) (c .before .before .before .before .before .before .before .before .before .loop-test .taken) (c .before .before .before .before .before .before .before .before .message-length .ensures) (c .past .ensures) {told = d .result} (c .before .before .before .before .before .before .front .ensures) (d .ensures) (c .before .count-refused .ensures) (d .kept .1 .0)
+    feed-on (c .before .before .before .before .before .before .before .before .before .before .loop .inv) (c .before .before .before .before .before .before .before .before .before .loop-test .taken) (c .before .before .before .before .before .before .before .before .message-length .ensures) (c .past .ensures) (d .result) (c .before .before .before .before .before .before .front .ensures) (d .ensures .0) (c .before .count-refused .ensures) (d .kept .1 .0)
 
 same-length : tie.Need-same-length Inv-loop μ-loop
 same-length c = c .before .loop .inv .size
