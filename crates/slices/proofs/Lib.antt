@@ -7,3 +7,4 @@ pub mod PutReads
 pub mod FillLaws
 pub mod EveryLaws
 pub mod ListedLaws
+pub mod ReflectLaws

@@ -8,6 +8,11 @@ abbrev pub In : {A : Type 0} → A → List A → Type 0
 In x [] = ⊥
 In x (y ∷ ys) = (x ≡ y) ⊎ In x ys
 
+-- P holds of one of them
+abbrev pub Some : {A : Type 0} → (A → Type 0) → List A → Type 0
+Some P [] = ⊥
+Some P (y ∷ ys) = P y ⊎ Some P ys
+
 -- x stands before y
 abbrev pub Earlier : {A : Type 0} → A → A → List A → Type 0
 Earlier x y [] = ⊥
