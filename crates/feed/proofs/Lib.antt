@@ -6,3 +6,4 @@ pub mod ReportLaws
 pub mod RunLaws
 pub mod LongestLaws
 pub mod Cases
+pub mod AnyBuffer

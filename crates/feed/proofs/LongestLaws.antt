@@ -22,6 +22,7 @@ use Rattle.board.specs.Board.{State, channels, emptySlot, fresh, slot, slotSize
 use Rattle.board.specs.declared.Shown.{Shown}
 use Rattle.board.specs.declared.Shown.the-variants.{Nothing as nothing, Record as recordOf}
 use Rattle.board.specs.declared.Slot.{Slot}
+use Rattle.board.proofs.TakenLaws.{Taken, taken}
 use Rattle.feed.specs.Feed.{inputMost, messages, Fed, countRefused, feedAll, shownText, lineOf, channelLine, channelLines, report, output}
 use Rattle.feed.specs.Longest.{lineMost, reportMost, LongestReport}
 
@@ -63,16 +64,6 @@ no-refusal m q = go (isLong m) (isUnended m) (lacksHeader m) (lacksNumber m) (ha
     go false false false false false false true q = absurd (omega arith)
     go false false false false false false false q = (refl, refl)
 
-no-board-refusal : (b : State) (m : List ℕ) → boardRefusal b m ≡ 0 → refusal m ≡ 0
-unfolding boardRefusal
-no-board-refusal b m q = go (lacksRoom b) (eqb (refusal m) 0) refl (not (hasChannel (reading m .prefix))) (isLate (reading m .sequence) (slot b (channel (reading m .prefix)) .shown)) q
-  where
-    go : (r t : Bool) → eqb (refusal m) 0 ≡ t → (c l : Bool) → cond {A = ℕ} r 1 (cond (not t) (refusal m) (cond c 9 (cond l 10 0))) ≡ 0
-        → refusal m ≡ 0
-    go true t e c l q = absurd (omega arith)
-    go false true e c l q = eqb-true (refusal m) 0 e
-    go false false e c l q = q
-
 number-fits : (m : List ℕ) → lacksNumber m ≡ false → leb (reading m .sequence) wordMost ≡ true
 unfolding lacksNumber reading
 number-fits m e =
@@ -94,7 +85,7 @@ deliver-small b m e = go (eqb (boardRefusal b m) 0) refl
     go : (t : Bool) → eqb (boardRefusal b m) 0 ≡ t
         → every small (cond {A = Delivered} t (record { answer = 0; board = show b (reading m) }) (record { answer = boardRefusal b m; board = b }) .board .slots) ≡ true
     go true q =
-        let f = no-refusal m (no-board-refusal b m (eqb-true (boardRefusal b m) 0 q)) in
+        let f = no-refusal m (taken b m (eqb-true (boardRefusal b m) 0 q) .none) in
         every-set small (b .slots) e (channel (reading m .prefix)) _ (rw (text-fits m (f .1), number-fits m (f .0)))
     go false q = e
 

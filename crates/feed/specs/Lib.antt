@@ -2,3 +2,4 @@ pub mod Feed
 pub mod Printing
 pub mod Longest
 pub mod Cases
+pub mod AnyBuffer
