@@ -1,14 +1,14 @@
 -- Two boards with the same slots over buffers of one length, where every slot that shows a record shows the same text: each
 -- delivery leaves two such boards, and their reports are one.
-use Prim.Native.Nat.{ℕ, zero, suc, _+_, _*_, _≤_, _<_}
+use Prim.Native.Nat.{ℕ, zero, suc, _+_, _*_}
 use mathlib.Core.Path.{_≡_, refl, ap, sym, _∙_}
 use mathlib.Core.Bool.{Bool, true, false, cond}
 use mathlib.Core.List.{List, [], _∷_, _++_}
 use native.Mathlib.Omega.{arith}
 use lib.Dec.{ltb, eqb}
-use lib.ListN.{length, getD, take, drop, set, replicate, length-set}
+use lib.ListN.{length, getD, set, replicate, length-set}
 use lib.Seq.{getD-set-same, getD-set-other}
-use borrow.Author.Tests.{eq-eqb, eqb-true, eqb-false}
+use borrow.Author.Tests.{eqb-true, eqb-false}
 use Rattle.slices.specs.Put.{put}
 use Rattle.slices.specs.Quoted.{quoted}
 use Rattle.slices.proofs.PutLaws.{length-put}
@@ -17,7 +17,7 @@ use Rattle.number.specs.Decimal.{decimal}
 use Rattle.escape.specs.Escape.{kmsgBytes}
 use Rattle.record.specs.declared.Seq.{Seq}
 use Rattle.message.specs.Message.{Reading, reading}
-use Rattle.board.specs.Board.{State, state, fresh, slot, channels, slotSize, emptySlot, lacksRoom, channel, boardRefusal, show, Delivered, deliver}
+use Rattle.board.specs.Board.{State, state, fresh, channels, slotSize, emptySlot, lacksRoom, channel, boardRefusal, show, Delivered, deliver}
 use Rattle.board.specs.declared.Shown.{Shown}
 use Rattle.board.specs.declared.Shown.the-variants.{Nothing as nothing, Record as recordOf}
 use Rattle.board.specs.declared.Slot.{Slot}

@@ -18,11 +18,11 @@ use Rattle.escape.proofs.EscapeLaws.{kmsg-most}
 use Rattle.record.specs.Limits.{wordMost, prefixMost}
 use Rattle.header.specs.Header.{field, isNumber, lacksHeader, lacksNumber}
 use Rattle.message.specs.Message.{text, dictionary, isLong, isUnended, hasWrongByte, hasWrongEntry, isBulky, refusal, reading}
-use Rattle.board.specs.Board.{State, channels, emptySlot, fresh, slot, slotSize, slotFits, lacksRoom, hasChannel, channel, isLate, boardRefusal, show, Delivered, deliver}
+use Rattle.board.specs.Board.{State, channels, emptySlot, fresh, slot, slotSize, slotFits, channel, boardRefusal, show, Delivered, deliver}
 use Rattle.board.specs.declared.Shown.{Shown}
 use Rattle.board.specs.declared.Shown.the-variants.{Nothing as nothing, Record as recordOf}
 use Rattle.board.specs.declared.Slot.{Slot}
-use Rattle.board.proofs.TakenLaws.{Taken, taken}
+use Rattle.board.proofs.TakenLaws.{taken}
 use Rattle.feed.specs.Feed.{inputMost, messages, Fed, countRefused, feedAll, shownText, lineOf, channelLine, channelLines, report, output}
 use Rattle.feed.specs.Longest.{lineMost, reportMost, LongestReport}
 

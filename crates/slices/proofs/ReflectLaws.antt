@@ -1,11 +1,11 @@
 -- What a test says, as a proposition: the test holds if and only if the proposition does.
 use Prim.Native.Nat.{ℕ, _≤_, _<_}
-use mathlib.Core.Path.{_≡_, refl, sym, _∙_}
+use mathlib.Core.Path.{_≡_, refl, sym}
 use mathlib.Core.Logic.{_⊎_, inl, inr}
-use mathlib.Core.Bool.{Bool, true, false, _&&_, _||_, not, true≢false, false≢true}
+use mathlib.Core.Bool.{Bool, true, false, _&&_, _||_, not, false≢true}
 use mathlib.Core.List.{List, [], _∷_}
 use lib.Dec.{leb, ltb, eqb}
-use borrow.Author.Tests.{ltb-true, lt-ltb, leb-true, le-leb, eqb-true, eq-eqb}
+use borrow.Author.Tests.{ltb-true, lt-ltb, leb-true, le-leb, leb-false, lt-leb, eqb-true, eq-eqb, not-true}
 use Rattle.slices.specs.Cut.{has}
 use Rattle.slices.specs.Tests.{every}
 use Rattle.slices.specs.Listed.{In, Some}
@@ -26,6 +26,10 @@ not-says {t} {P} r = record { says = λ e p. says t e (r .told p); told = λ n. 
     told : (t : Bool) → (P → ⊥) → (t ≡ true → P) → not t ≡ true
     told true n h = absurd (n (h refl))
     told false n h = refl
+
+pub twice-says : (t : Bool) {P : Type 0} → Reflects t P → Reflects (not (not t)) P
+twice-says true r = r
+twice-says false r = r
 
 pub and-says : {a b : Bool} {P Q : Type 0} → Reflects a P → Reflects b Q → Reflects (a && b) (P × Q)
 and-says {a} {b} {P} {Q} r s = record { says = says a (r .says); told = λ h. told a (r .told (h .0)) (s .told (h .1)) }
@@ -66,6 +70,9 @@ ltb-says a b = record { says = ltb-true a b; told = lt-ltb a b }
 
 pub leb-says : (a b : ℕ) → Reflects (leb a b) (a ≤ b)
 leb-says a b = record { says = leb-true a b; told = le-leb a b }
+
+pub above-says : (a b : ℕ) → Reflects (not (leb a b)) (b < a)
+above-says a b = record { says = λ e. leb-false a b (not-true (leb a b) e); told = λ h. rw (lt-leb a b h) }
 
 pub eqb-says : (a b : ℕ) → Reflects (eqb a b) (a ≡ b)
 eqb-says a b = record { says = eqb-true a b; told = eq-eqb a b }
