@@ -4,7 +4,7 @@ use mathlib.Core.Path.{_≡_, refl, ap, _∙_}
 use mathlib.Core.List.{List, [], _∷_}
 use native.Mathlib.Omega.{arith}
 use lib.ListN.{length, take, drop, replicate, length-drop}
-use Rattle.board.specs.Board.{emptySlot, fresh, Delivered, deliver, answerNumber, left, state}
+use Rattle.board.specs.Board.{channels, emptySlot, fresh, Delivered, deliver, answerNumber, left, state}
 use Rattle.board.specs.declared.Slot.{Slot}
 use Rattle.board.specs.declared.Told.{Told}
 use Rattle.feed.specs.Feed.{messages, messageLength, Fed, fed, countRefused, feedAll}
@@ -16,7 +16,7 @@ pub record Feeding (input buffer₀ : List ℕ) (slots : List Slot) (buffer : Li
   pub size : length buffer ≡ length buffer₀
   pub feeds : feedAll (state slots buffer) refused (messages rest) ≡ feedAll (fresh buffer₀) 0 (messages input)
 
-pub feed-begin : {input buffer : List ℕ} {slots : List Slot} → slots ≡ replicate 8 emptySlot → Feeding input buffer slots buffer 0 input
+pub feed-begin : {input buffer : List ℕ} {slots : List Slot} → slots ≡ replicate channels emptySlot → Feeding input buffer slots buffer 0 input
 unfolding fresh
 feed-begin e = record { count = omega arith; size = refl; feeds = rw e }
 

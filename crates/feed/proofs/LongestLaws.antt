@@ -16,9 +16,10 @@ use Rattle.number.proofs.DecimalLaws.{decimal-most}
 use Rattle.escape.specs.Escape.{kmsgBytes}
 use Rattle.escape.proofs.EscapeLaws.{kmsg-most}
 use Rattle.record.specs.Limits.{wordMost, prefixMost}
-use Rattle.header.specs.Header.{field, isNumber, lacksHeader, lacksNumber}
-use Rattle.message.specs.Message.{text, dictionary, isLong, isUnended, hasWrongByte, hasWrongEntry, isBulky, refusal, reading}
-use Rattle.board.specs.Board.{State, channels, emptySlot, fresh, slot, slotSize, slotFits, channel, boardRefusal, show, Delivered, deliver}
+use Rattle.header.specs.Header.{field, isNumber, lacksNumber}
+use Rattle.message.specs.Message.{text, dictionary, isBulky, refusal, reading}
+use Rattle.message.proofs.AcceptLaws.{Clear, clear}
+use Rattle.board.specs.Board.{State, channels, emptySlot, fresh, slot, slotSize, facilityFirst, slotFits, channel, boardRefusal, show, Delivered, deliver}
 use Rattle.board.specs.declared.Shown.{Shown}
 use Rattle.board.specs.declared.Shown.the-variants.{Nothing as nothing, Record as recordOf}
 use Rattle.board.specs.declared.Slot.{Slot}
@@ -49,21 +50,6 @@ small s = slotFits s && numberFits (s .shown)
 
 -- ---- what an accepted message has
 
-no-refusal : (m : List ℕ) → refusal m ≡ 0 → (lacksNumber m ≡ false) × (isBulky m ≡ false)
-unfolding refusal
-no-refusal m q = go (isLong m) (isUnended m) (lacksHeader m) (lacksNumber m) (hasWrongByte m) (hasWrongEntry m) (isBulky m) q
-  where
-    go : (l u h n b e k : Bool) → cond {A = ℕ} l 2 (cond u 3 (cond h 4 (cond n 5 (cond b 6 (cond e 7 (cond k 8 0)))))) ≡ 0
-        → (n ≡ false) × (k ≡ false)
-    go true u h n b e k q = absurd (omega arith)
-    go false true h n b e k q = absurd (omega arith)
-    go false false true n b e k q = absurd (omega arith)
-    go false false false true b e k q = absurd (omega arith)
-    go false false false false true e k q = absurd (omega arith)
-    go false false false false false true k q = absurd (omega arith)
-    go false false false false false false true q = absurd (omega arith)
-    go false false false false false false false q = (refl, refl)
-
 number-fits : (m : List ℕ) → lacksNumber m ≡ false → leb (reading m .sequence) wordMost ≡ true
 unfolding lacksNumber reading
 number-fits m e =
@@ -85,8 +71,8 @@ deliver-small b m e = go (eqb (boardRefusal b m) 0) refl
     go : (t : Bool) → eqb (boardRefusal b m) 0 ≡ t
         → every small (cond {A = Delivered} t (record { answer = 0; board = show b (reading m) }) (record { answer = boardRefusal b m; board = b }) .board .slots) ≡ true
     go true q =
-        let f = no-refusal m (taken b m (eqb-true (boardRefusal b m) 0 q) .none) in
-        every-set small (b .slots) e (channel (reading m .prefix)) _ (rw (text-fits m (f .1), number-fits m (f .0)))
+        let f : Clear m = clear m (taken b m (eqb-true (boardRefusal b m) 0 q) .none) in
+        every-set small (b .slots) e (channel (reading m .prefix)) _ (rw (text-fits m (f .bulk), number-fits m (f .number)))
     go false q = e
 
 feed-small : (b : State) (n : ℕ) (ms : List (List ℕ)) → every small (b .slots) ≡ true → every small (feedAll b n ms .board .slots) ≡ true
@@ -137,7 +123,7 @@ line-most b i h e = go (slot b i .shown) (and-right (slotFits (slot b i)) (numbe
     go nothing q = omega arith
     go (recordOf n) q =
         simp length-append
-        (omega (arith, decimal-most 1 (16 + i) (omega arith), decimal-most 19 (n .0) (omega (arith, leb-true (n .0) wordMost q)), t))
+        (omega (arith, decimal-most 1 (facilityFirst + i) (omega arith), decimal-most 19 (n .0) (omega (arith, leb-true (n .0) wordMost q)), t))
 
 lines-most : (b : State) (i n : ℕ) → i + n ≤ channels → every small (b .slots) ≡ true → length (channelLines b i n) ≤ n * lineMost
 unfolding channelLines

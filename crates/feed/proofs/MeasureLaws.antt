@@ -12,7 +12,7 @@ use Rattle.number.specs.Decimal.{decimal}
 use Rattle.escape.specs.Escape.{kmsgBytes}
 use Rattle.escape.specs.Answers.{kmsgLength}
 use Rattle.escape.specs.declared.Measured.the-variants.{Length, TooLong}
-use Rattle.board.specs.Board.{State, channels, slot}
+use Rattle.board.specs.Board.{State, channels, facilityFirst, slot}
 use Rattle.board.specs.declared.Shown.{Shown}
 use Rattle.board.specs.declared.Shown.the-variants.{Nothing as nothing, Record as recordOf}
 use Rattle.record.specs.declared.Seq.{Seq}
@@ -95,11 +95,11 @@ module _ (channel most : ℕ) (text : List ℕ) (s : Shown) where
 
 -- a channel's line is what its slot shows
 pub channel-line : (b : State) (i : ℕ) {text : List ℕ} → text ≡ shownText b i
-    → shownLine (16 + i) (slot b i .shown) text ≡ channelLine b i
+    → shownLine (facilityFirst + i) (slot b i .shown) text ≡ channelLine b i
 unfolding shownLine channelLine
 channel-line b i e = rw e (go (slot b i .shown))
   where
-    go : (s : Shown) → shownLine (16 + i) s (shownText b i) ≡ lineOf b i s
+    go : (s : Shown) → shownLine (facilityFirst + i) s (shownText b i) ≡ lineOf b i s
     go nothing = refl
     go (recordOf n) = simp append-assoc
 

@@ -19,12 +19,10 @@ pub const INPUT: usize = 65536;
 
 // Bytes that have room for any report: a line of 2 digits, a space, 20 digits, a space, a full slot with every byte escaped and
 // a newline for each channel, and the last line's 8 bytes, 20 digits and a newline.
-pub const REPORT: usize = 8 * (2 + 1 + 20 + 1 + 4 * 960 + 1) + 8 + 20 + 1;
+pub const REPORT: usize = Board::SLOTS * (2 + 1 + 20 + 1 + 4 * Board::TEXT + 1) + 8 + 20 + 1;
 
-// A board's channels, and the first of them.
-const CHANNELS: usize = 8;
-
-const FIRST: usize = 16;
+// The channel of the first slot.
+const FIRST: usize = Board::FIRST as usize;
 
 // A board that was fed, and how many messages it refused.
 pub struct Received {
@@ -110,12 +108,12 @@ fn line_length(channel: usize, shown: Shown, text: &[u8], most: usize) -> Measur
 }
 
 // How many bytes the lines of all channels have, if no more than `most`.
-fn lines_length(slots: [Slot; 8], buffer: &[u8], most: usize) -> Measured
+fn lines_length(slots: [Slot; Board::SLOTS], buffer: &[u8], most: usize) -> Measured
     ensures { λ r. ⌜ r ≡ measured most (channelLines (state slots (now (buffer .entry))) 0 channels) ⌝ }
 {
     let mut room = most;
     let mut i = 0;
-    while i < CHANNELS {
+    while i < Board::SLOTS {
         let slot = slots[i];
         let shown = slot.shown;
         let size = slot.size;
@@ -157,13 +155,13 @@ fn write_line(channel: usize, shown: Shown, text: &[u8], out: &mut [u8], at: usi
 }
 
 // The lines of all channels, upward, put in front of a buffer that has room for them; the place behind them.
-fn write_lines(slots: [Slot; 8], buffer: &[u8], out: &mut [u8]) -> usize
+fn write_lines(slots: [Slot; Board::SLOTS], buffer: &[u8], out: &mut [u8]) -> usize
     requires { ⌜ length (channelLines (state slots (now buffer)) 0 channels) ≤ length (now out) ⌝ }
     ensures { λ r. ⌜ Written (now (out .entry)) 0 (channelLines (state slots (now (buffer .entry))) 0 channels) r (now (out .exit)) ⌝ }
 {
     let mut at = 0;
     let mut i = 0;
-    while i < CHANNELS {
+    while i < Board::SLOTS {
         let slot = slots[i];
         let shown = slot.shown;
         let size = slot.size;

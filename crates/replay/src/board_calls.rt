@@ -15,12 +15,7 @@ use script::words::Bytes;
 use script::words::Words;
 
 // The board's buffer.
-pub type Slots = [u8; 7680];
-
-const SLOTS: usize = 8;
-
-// The channel of the first slot.
-const CHANNEL: u64 = 16;
+pub type Slots = [u8; Board::BUFFER];
 
 // A fresh board.
 pub fn fresh(state: State, words: Words, slots: &mut Slots) -> Called {
@@ -53,7 +48,7 @@ fn stayed(was: Board, board: Board, before: &[u8], after: &[u8]) -> bool {
     let old_slots = was.slots;
     let new_slots = board.slots;
     let mut k = 0;
-    while k < SLOTS {
+    while k < Board::SLOTS {
         let old = old_slots[k];
         let new = new_slots[k];
         if is_changed(old, new) {
@@ -110,7 +105,7 @@ fn shown_told(slot: Slot, bytes: usize) -> Told {
 }
 
 fn slot_told(board: Board, k: usize, buffer: &Slots, space: &mut Space) -> Told {
-    if SLOTS <= k {
+    if Board::SLOTS <= k {
         return Told::no_call();
     }
     let slots = board.slots;
@@ -122,10 +117,10 @@ fn slot_told(board: Board, k: usize, buffer: &Slots, space: &mut Space) -> Told 
 
 // A channel's slot: no slot, for a channel below the first.
 fn slot_of(channel: u64) -> usize {
-    if channel < CHANNEL {
-        return SLOTS;
+    if channel < Board::FIRST {
+        return Board::SLOTS;
     }
-    decimals::size(channel - CHANNEL, SLOTS)
+    decimals::size(channel - Board::FIRST, Board::SLOTS)
 }
 
 fn slot(board: Board, words: Words, slots: &Slots, space: &mut Space) -> BoardCalled {

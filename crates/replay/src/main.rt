@@ -8,12 +8,14 @@ mod renderer_calls;
 mod state;
 mod write_calls;
 
+use board::Board;
+
 fn main() {
     let mut chunk = io::large_buffer();
     let mut line = [0u8; 40001];
     let mut bytes = [0u8; 20000];
     let mut buffer = [0u8; 70000];
-    let mut slots = [0u8; 7680];
+    let mut slots = [0u8; Board::BUFFER];
     let mut space = [0u8; 300000];
     lines::run(
         &mut chunk,

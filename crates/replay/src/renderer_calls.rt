@@ -2,7 +2,9 @@
 use crate::state;
 use crate::state::Called;
 use crate::state::State;
+use message::Shape;
 use number::Loaded;
+use record::Heading;
 use script::answers::Told;
 use script::decimals;
 use script::lent;
@@ -11,7 +13,9 @@ use script::words;
 use script::words::Bytes;
 use script::words::Words;
 
-type Block = [u8; 48];
+type Result = [u8; Heading::PAYLOAD];
+
+type Block = [u8; Shape::BLOCK];
 
 // A number of the line reader's block.
 fn loaded(block: &Block, k: usize) -> u64 {
@@ -31,24 +35,24 @@ fn accepted(block: &Block) -> Told {
     told.n2 = loaded(block, 1);
     told.n3 = loaded(block, 2);
     told.n4 = loaded(block, 5);
-    told.to = decimals::size(loaded(block, 3), 960);
-    told.more = told.to + decimals::size(loaded(block, 4), 960);
+    told.to = decimals::size(loaded(block, 3), Heading::PAYLOAD);
+    told.more = told.to + decimals::size(loaded(block, 4), Heading::PAYLOAD);
     told
 }
 
 // Of what it accepted only as many bytes of the result may change as the block says.
-fn accepted_told(result: &[u8; 960], block: &Block) -> Told {
+fn accepted_told(result: &Result, block: &Block) -> Told {
     let told = accepted(block);
     told.marked(lent::stayed(result, told.more))
 }
 
 // A refusal changes no byte.
-fn refused_told(refusal: u32, result: &[u8; 960], block: &Block) -> Told {
+fn refused_told(refusal: u32, result: &Result, block: &Block) -> Told {
     let stayed = lent::stayed(result, 0) & lent::stayed(block, 0);
     Told::number(refusal as u64).marked(stayed)
 }
 
-fn read_told(refusal: u32, result: &[u8; 960], block: &Block) -> Told {
+fn read_told(refusal: u32, result: &Result, block: &Block) -> Told {
     if refusal == 0 {
         accepted_told(result, block)
     } else {
@@ -56,15 +60,15 @@ fn read_told(refusal: u32, result: &[u8; 960], block: &Block) -> Told {
     }
 }
 
-fn read(message: &[u8], result: &mut [u8; 960], block: &mut Block, space: &mut Space) -> Told {
+fn read(message: &[u8], result: &mut Result, block: &mut Block, space: &mut Space) -> Told {
     let refusal = message::read_line(message, result, block);
     slices::copy(result, space, 0);
     read_told(refusal, result, block)
 }
 
 fn line(words: Words, bytes: &Bytes, space: &mut Space) -> Told {
-    let mut result = [lent::FILL; 960];
-    let mut block = [lent::FILL; 48];
+    let mut result = [lent::FILL; Heading::PAYLOAD];
+    let mut block = [lent::FILL; Shape::BLOCK];
     let message = words::bytes_of(words.w1, bytes);
     read(message, &mut result, &mut block, space)
 }

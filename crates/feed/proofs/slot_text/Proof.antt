@@ -5,6 +5,7 @@ use Prim.Native.Nat.{_*_, _-_, _≤_}
 use lib.ListN.{length, take, drop, length-drop, drop-of-length-le}
 use lib.Seq.{take-all, take-nil}
 use borrow.Author.Needs.{needs}
+use Rattle.board.specs.Board.{slotSize}
 use Rattle.feed.proofs.slot_text.Statement.{statement}
 use Rattle.feed.proofs.slot_text.Tie as tie
 
@@ -29,13 +30,13 @@ front-requires-2 c κs = search needs
 returns : tie.Need-returns
 returns c =
     let a = c .before .before .before .before .args in
-    let at = a .i * 960 in
+    let at = a .i * slotSize in
     c .front .ensures ∙ ap (take (a .size)) (take-all (length (a .buffer .now) - at) (drop at (a .buffer .now)) (rw length-drop (omega arith)))
 
 returns-2 : tie.Need-returns-2
 returns-2 c =
     let a = c .before .before .before .args in
-    let h : length (a .buffer .now) ≤ a .i * 960 = omega arith in
+    let h : length (a .buffer .now) ≤ a .i * slotSize = omega arith in
     c .front2 .ensures ∙ sym (ap (take (a .size)) (drop-of-length-le (a .buffer .now) h) ∙ take-nil (a .size))
 
 pub slot-text-spec : {M : Type 1} → statement M
