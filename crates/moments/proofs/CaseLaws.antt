@@ -1,12 +1,13 @@
 -- A case on a fresh log, by computing the history, with which the log agrees.
-use Prim.Native.Nat.{ℕ}
-use mathlib.Core.Path.{_≡_, ap, _∙_}
+use Prim.Native.Nat.{ℕ, zero, suc, _+_}
+use mathlib.Core.Path.{_≡_, refl, ap, _∙_}
 use mathlib.Core.Bool.{Bool, true, _&&_}
 use mathlib.Core.List.{List, [], _∷_, map}
+use native.Mathlib.Nat.{add-zero, zero-add}
 use native.Mathlib.Omega.{arith}
 use borrow.Author.Tests.{leb-true}
 use lib.Dec.{leb}
-use lib.ListN.{length}
+use lib.ListN.{length, getD, drop}
 use Rattle.slices.specs.Tests.{every}
 use Rattle.slices.proofs.Bools.{and-left, and-right, every-first, every-other}
 use Rattle.record.specs.Limits.{wordMost}
@@ -17,7 +18,7 @@ use Rattle.history.specs.Past.{Past, firstHeld, held, pastStep, pastAfter, fres
 use Rattle.history.specs.Demand2.{fresh, Timed, AllTimed}
 use Rattle.history.proofs.SoundLaws.{Sound, sound-step, sound-after, sound-fresh}
 use Rattle.history.proofs.Demand2.{Agrees, first-is, next-is, level-is, agree-step, agree-after, agree-fresh}
-use Rattle.moments.specs.Case.{seenOf, Outcome, outcomeOf, callOf, Calls, outcome, GivesFrom}
+use Rattle.moments.specs.Case.{seenOf, Outcome, outcomeOf, callOf, Calls, outcome, GivesFrom, Leaves, LeavesFrom}
 
 -- ---- times of 64 bits, by a test
 
@@ -85,3 +86,22 @@ on-fresh c h buffer l =
     let then = all-timed now (and-right (every isTimed before) _ times) in
     agree-outcome now _ _ (agree-after before (fresh buffer) (freshPast 1024) a ok t) (sound-after before (freshPast 1024) ok t) then
     ∙ ap (λ (x : Bool × Outcome). x .1) h
+
+-- ---- a fresh log over any 1,024 bytes, by computing over bytes that are named
+
+unfoldable pub listed : ℕ → ℕ → (ℕ → ℕ) → List ℕ
+listed zero k f = []
+listed (suc n) k f = f k ∷ listed n (k + 1) f
+
+listed-is : (xs : List ℕ) (k : ℕ) (f : ℕ → ℕ) → ((i : ℕ) → f (k + i) ≡ getD xs i 0) → listed (length xs) k f ≡ xs
+unfolding listed
+listed-is [] k f h = refl
+listed-is (x ∷ xs) k f h =
+    let first : f k ≡ x = rw add-zero at (h 0) in
+    let rest = listed-is xs (k + 1) f (λ i.
+    let e : k + 1 + i ≡ k + suc i = omega arith in
+    rw e (h (suc i))) in
+    rw (first, rest)
+
+pub on-any : (l : Leaves) → ((f : ℕ → ℕ) → LeavesFrom (listed 1024 0 f) l) → (held : List ℕ) → length held ≡ 1024 → LeavesFrom held l
+on-any l h held e = rw (rw e at (listed-is held 0 (λ (i : ℕ). getD held i 0) (λ i. rw zero-add))) at (h (λ (i : ℕ). getD held i 0))

@@ -8,7 +8,7 @@ use Rattle.record.specs.Heading.{headingOf, headingBytes, headingCost, headingF
 use Rattle.ring.specs.Ring.{unrolled, wrapped, ringPut}
 use Rattle.record.specs.Forms.{kmsgEntries, kmsgHeader, kmsgLine, syslogForm, syslogForms, syslogLength}
 use Rattle.log.specs.View.{nextOf, recordAt}
-use Rattle.log.specs.Check.{numbersFit, dictionaryBytes, recordFits, after, recordOf, skipped, walked, recordsIn, offsetFits, finished, checked, marksOf, viewOf, withMarks, ruled}
+use Rattle.log.specs.Check.{freshLog, numbersFit, dictionaryBytes, recordFits, after, recordOf, skipped, walked, recordsIn, offsetFits, finished, checked, marksOf, viewOf, withMarks, ruled}
 use Rattle.log.specs.Excess.{excess}
 use Rattle.store.specs.Write.{droppedBy, keptBy, writtenLog, writtenBuffer}
 use Rattle.front.specs.Prefix.{hasPrefix, prefixIn, afterPrefix, notKernel, withoutNewline}
@@ -18,91 +18,167 @@ use Rattle.kmsg.specs.Read.{reading as kmsgReading}
 use Rattle.forms.specs.Copy.{onward}
 use Rattle.syslog.specs.Command.{fromNumber, fromOffset, unreadRecords, unread, copied, moved, sinceClear, lastOf, commandRuling, marksAfter, given, count, commandBy, commanding}
 use Rattle.history.specs.Calls.{step, stateAfter}
+use Rattle.history.specs.Demand2.{fresh as freshLogged}
 use Rattle.history.specs.Past.{firstHeld, held, pastWrite, pastStep, pastAfter, freshPast}
 use Rattle.header.specs.Header.{header, fields, field, lacksHeader, lacksNumber}
 use Rattle.message.specs.Message.{body, lines, text, continuations, dictionary, isLong, isUnended, hasWrongByte, hasWrongEntry, isBulky, refusal, reading}
 use Rattle.message.specs.Line.{lineRefusal, readLine}
 use Rattle.board.specs.Board.{fresh, lacksRoom, boardRefusal, show, deliver}
-use Rattle.moments.specs.Case.{done, _and_}
+use Rattle.moments.specs.Case.{leaves, Agrees, AllAgree, done, _and_}
 use Rattle.moments.specs.Table.{t1, t2, t3, t4, t5, t6, t7, t8, t9, t10, t11, t12, last-line, TableAgrees}
-use Rattle.moments.specs.Refusals.{readers-refused, writes-refused, commands-refused}
-use Rattle.moments.specs.Pages.{prefixes, from-box, seeks, goes-on, console-8, console-6, console-7, overtaken-end}
+use Rattle.moments.specs.Refusals.{refusals, readers-refused, writes-refused, commands-refused}
+use Rattle.moments.specs.Pages.{pages, prefixes, from-box, seeks, goes-on, mark-passed, mark-passed-by-4, none-of-dropped, console-8, console-6, console-7, overtaken-end}
+use Rattle.moments.specs.Bytes.{in-front, with-dictionary, only-marks, text-over, start-over, heading-over, position-stays}
+use Rattle.moments.specs.Pairs.{together, eperm-before-einval, efault-between, eperm-alone}
 use Rattle.moments.specs.Claim.{Claim}
-use Rattle.moments.proofs.CaseLaws.{isTimed, pastOutcome, sight, on-fresh}
+use Rattle.moments.proofs.CaseLaws.{isTimed, pastOutcome, sight, on-fresh, listed, on-any}
 
-pub all-agree : Claim
-unfolding decimal value plainDecimal wellEscaped unescape isDictionary cost headingOf headingBytes headingCost headingFits recordHeading recordBytes unrolled wrapped ringPut kmsgEntries kmsgHeader kmsgLine syslogForm syslogForms syslogLength nextOf recordAt numbersFit dictionaryBytes recordFits after recordOf skipped walked recordsIn offsetFits finished checked marksOf viewOf withMarks ruled excess droppedBy keptBy writtenLog writtenBuffer hasPrefix prefixIn afterPrefix notKernel withoutNewline outsideRecord boxRecord outsideRuling boxRuling writeBy outsideWrite boxWrite lineAt readRuling readRefused readDone readBy kmsgReading seekRuling seekPlace seekBy seeking fromNumber fromOffset unreadRecords unread copied onward moved sinceClear lastOf commandRuling marksAfter given count commandBy commanding step stateAfter firstHeld held pastWrite pastStep pastAfter freshPast header fields field body lines text continuations dictionary isLong isUnended lacksHeader lacksNumber hasWrongByte hasWrongEntry isBulky refusal reading lineRefusal readLine fresh lacksRoom boardRefusal show deliver isTimed pastOutcome sight
-all-agree =
-    record {
-      moments = on-fresh t1 refl
-          and on-fresh t2 refl
-          and on-fresh t3 refl
-          and on-fresh t4 refl
-          and on-fresh t5 refl
-          and on-fresh t6 refl
-          and on-fresh t7 refl
-          and on-fresh t8 refl
-          and on-fresh t9 refl
-          and on-fresh t10 refl
-          and on-fresh t11 refl
-          and on-fresh t12 refl
-          and refl
-          and refl
-          and refl
-          and refl
-          and on-fresh last-line refl
-          and done;
-      refused = refl
-          and refl
-          and refl
-          and refl
-          and on-fresh readers-refused refl
-          and on-fresh writes-refused refl
-          and on-fresh commands-refused refl
-          and refl
-          and refl
-          and refl
-          and refl
-          and refl
-          and refl
-          and refl
-          and refl
-          and refl
-          and refl
-          and refl
-          and refl
-          and refl
-          and refl
-          and refl
-          and refl
-          and refl
-          and refl
-          and refl
-          and refl
-          and refl
-          and refl
-          and refl
-          and refl
-          and refl
-          and refl
-          and refl
-          and refl
-          and done;
-      others = on-fresh prefixes refl
-          and on-fresh from-box refl
-          and on-fresh seeks refl
-          and on-fresh goes-on refl
-          and on-fresh console-8 refl
-          and on-fresh console-6 refl
-          and on-fresh console-7 refl
-          and on-fresh overtaken-end refl
-          and refl
-          and refl
-          and refl
-          and refl
-          and done;
-    }
+-- what the rows are computed by, named once for all of them
+unfoldable the-definitions : Unit {0}
+unfolding decimal value plainDecimal wellEscaped unescape isDictionary cost headingOf headingBytes headingCost headingFits recordHeading recordBytes unrolled wrapped ringPut kmsgEntries kmsgHeader kmsgLine syslogForm syslogForms syslogLength nextOf recordAt numbersFit dictionaryBytes recordFits after recordOf skipped walked recordsIn offsetFits finished checked marksOf viewOf withMarks ruled excess droppedBy keptBy writtenLog writtenBuffer hasPrefix prefixIn afterPrefix notKernel withoutNewline outsideRecord boxRecord outsideRuling boxRuling writeBy outsideWrite boxWrite lineAt readRuling readRefused readDone readBy kmsgReading seekRuling seekPlace seekBy seeking fromNumber fromOffset unreadRecords unread copied onward moved sinceClear lastOf commandRuling marksAfter given count commandBy commanding step stateAfter firstHeld held pastWrite pastStep pastAfter freshPast header fields field body lines text continuations dictionary isLong isUnended lacksHeader lacksNumber hasWrongByte hasWrongEntry isBulky refusal reading lineRefusal readLine fresh lacksRoom boardRefusal show deliver isTimed pastOutcome sight listed freshLog freshLogged
+the-definitions = tt
 
 -- T1 to T16
 pub table-agrees : TableAgrees
-table-agrees = all-agree .moments
+unfolding the-definitions
+table-agrees =
+    on-fresh t1 refl
+    and on-fresh t2 refl
+    and on-fresh t3 refl
+    and on-fresh t4 refl
+    and on-fresh t5 refl
+    and on-fresh t6 refl
+    and on-fresh t7 refl
+    and on-fresh t8 refl
+    and on-fresh t9 refl
+    and on-fresh t10 refl
+    and on-fresh t11 refl
+    and on-fresh t12 refl
+    and refl
+    and refl
+    and refl
+    and refl
+    and on-fresh last-line refl
+    and done
+
+refusals-agree : AllAgree refusals
+unfolding the-definitions
+refusals-agree =
+    refl
+    and refl
+    and refl
+    and refl
+    and on-fresh readers-refused refl
+    and on-fresh writes-refused refl
+    and on-fresh commands-refused refl
+    and refl
+    and refl
+    and refl
+    and refl
+    and refl
+    and refl
+    and refl
+    and refl
+    and refl
+    and refl
+    and refl
+    and refl
+    and refl
+    and refl
+    and refl
+    and refl
+    and refl
+    and refl
+    and refl
+    and refl
+    and refl
+    and refl
+    and refl
+    and refl
+    and refl
+    and refl
+    and refl
+    and refl
+    and done
+
+pages-agree : AllAgree pages
+unfolding the-definitions
+pages-agree =
+    on-fresh prefixes refl
+    and on-fresh from-box refl
+    and on-fresh seeks refl
+    and on-fresh goes-on refl
+    and on-fresh mark-passed refl
+    and on-fresh mark-passed-by-4 refl
+    and on-fresh none-of-dropped refl
+    and on-fresh console-8 refl
+    and on-fresh console-6 refl
+    and on-fresh console-7 refl
+    and on-fresh overtaken-end refl
+    and refl
+    and refl
+    and refl
+    and refl
+    and done
+
+in-front-agrees : Agrees (leaves in-front)
+unfolding the-definitions
+in-front-agrees = on-any in-front (λ f. refl)
+
+with-dictionary-agrees : Agrees (leaves with-dictionary)
+unfolding the-definitions
+with-dictionary-agrees = on-any with-dictionary (λ f. refl)
+
+only-marks-agrees : Agrees (leaves only-marks)
+unfolding the-definitions
+only-marks-agrees = on-any only-marks (λ f. refl)
+
+text-over-agrees : Agrees (leaves text-over)
+unfolding the-definitions
+text-over-agrees = on-any text-over (λ f. refl)
+
+start-over-agrees : Agrees (leaves start-over)
+unfolding the-definitions
+start-over-agrees = on-any start-over (λ f. refl)
+
+heading-over-agrees : Agrees (leaves heading-over)
+unfolding the-definitions
+heading-over-agrees = on-any heading-over (λ f. refl)
+
+position-stays-agrees : Agrees (leaves position-stays)
+unfolding the-definitions
+position-stays-agrees = on-any position-stays (λ f. refl)
+
+pairs-agree : AllAgree together
+unfolding the-definitions
+pairs-agree =
+    refl
+    and on-fresh eperm-before-einval refl
+    and on-fresh efault-between refl
+    and on-fresh eperm-alone refl
+    and refl
+    and refl
+    and refl
+    and refl
+    and refl
+    and refl
+    and refl
+    and refl
+    and done
+
+pub all-agree : Claim
+all-agree =
+    record {
+      moments = table-agrees;
+      refused = refusals-agree;
+      others = pages-agree;
+      bytes = in-front-agrees
+          and with-dictionary-agrees
+          and only-marks-agrees
+          and text-over-agrees
+          and start-over-agrees
+          and heading-over-agrees
+          and position-stays-agrees
+          and done;
+      pairs = pairs-agree;
+    }

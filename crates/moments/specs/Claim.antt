@@ -3,6 +3,8 @@ use Rattle.moments.specs.Case.{AllAgree}
 use Rattle.moments.specs.Table.{TableAgrees}
 use Rattle.moments.specs.Refusals.{refusals}
 use Rattle.moments.specs.Pages.{pages}
+use Rattle.moments.specs.Bytes.{stored}
+use Rattle.moments.specs.Pairs.{together}
 
 pub record Claim : Type 0 where
   -- T1 to T16
@@ -10,3 +12,7 @@ pub record Claim : Type 0 where
   -- each number of "When the log says no", and 1 to 10
   pub refused : AllAgree refusals
   pub others : AllAgree pages
+  -- start place and bytes that writes leave
+  pub bytes : AllAgree stored
+  -- two refusals at once
+  pub pairs : AllAgree together

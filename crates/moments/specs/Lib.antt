@@ -2,4 +2,6 @@ pub mod Case
 pub mod Table
 pub mod Refusals
 pub mod Pages
+pub mod Bytes
+pub mod Pairs
 pub mod Claim

@@ -91,6 +91,74 @@ goes-on =
       after = record { used = 1009; first = 1; next = 3; level = 7 };
     }
 
+-- the clear mark below first: command 5 sets it to 1, then 0 to 3 are dropped, two by two (25 + 25 + 25 + 984 = 1,059 is 35 too many). 3 gives the forms of 4 and 5
+-- whole, 965 + 6 bytes; DATA leaves the reader at 1, which the next read tells: first - 1 are lost. 4 gives the same, and sets the mark to next
+abbrev pub mark-passed : Calls
+mark-passed =
+    record {
+      before = new;
+      earlier = [];
+      steps = make gives At 0
+          ∷ outside 0 (quoted "a") gives Wrote (pos 1) 0
+          ∷ asked 5 0 [] gives Told (pos 0) []
+          ∷ outside 0 (quoted "b") gives Wrote (pos 1) 0
+          ∷ outside 0 (quoted "c") gives Wrote (pos 1) 0
+          ∷ outside 0 (replicate 960 100) gives Wrote (pos 960) 2
+          ∷ seek 0 (pos 0) (pos 3) gives Sought (pos 0) 1
+          ∷ read 0 (blank 9) gives Read (minus 32) 1 2 (blank 9)
+          ∷ outside 0 (replicate 960 101) gives Wrote (pos 960) 2
+          ∷ outside 0 (quoted "f") gives Wrote (pos 1) 0
+          ∷ asked 3 980 (blank 980) gives Told (pos 971) (quoted "<12>" ++ (replicate 960 101 ++ (quoted "\n<12>f\n" ++ blank 9)))
+          ∷ asked 3 8 (blank 8) gives Told (pos 8) (quoted "e\n<12>f\n")
+          ∷ seek 0 (pos 0) (pos 3) gives Sought (pos 0) 1
+          ∷ read 0 [] gives Read (minus 32) 3 4 []
+          ∷ asked 4 980 (blank 980) gives Told (pos 971) (quoted "<12>" ++ (replicate 960 101 ++ (quoted "\n<12>f\n" ++ blank 9)))
+          ∷ seek 0 (pos 0) (pos 3) gives Sought (pos 0) 6
+          ∷ asked 3 8 (blank 8) gives Told (pos 0) (blank 8)
+          ∷ [];
+      after = record { used = 1009; first = 4; next = 6; level = 7 };
+    }
+
+-- the same with the mark that command 4 set, with len 0: 2, and first is 3
+abbrev pub mark-passed-by-4 : Calls
+mark-passed-by-4 =
+    record {
+      before = new;
+      earlier = [];
+      steps = make gives At 0
+          ∷ outside 0 (quoted "a") gives Wrote (pos 1) 0
+          ∷ outside 0 (quoted "b") gives Wrote (pos 1) 0
+          ∷ asked 4 0 [] gives Told (pos 0) []
+          ∷ outside 0 (replicate 960 99) gives Wrote (pos 960) 1
+          ∷ outside 0 (replicate 960 100) gives Wrote (pos 960) 2
+          ∷ seek 0 (pos 0) (pos 3) gives Sought (pos 0) 2
+          ∷ asked 3 5 (blank 6) gives Told (pos 5) (quoted "dddd\n" ++ blank 1)
+          ∷ asked 4 965 (blank 965) gives Told (pos 965) (quoted "<12>" ++ (replicate 960 100 ++ quoted "\n"))
+          ∷ asked 3 5 (blank 6) gives Told (pos 0) (blank 6)
+          ∷ read 0 [] gives Read (minus 32) 1 3 []
+          ∷ seek 0 (pos 0) (pos 3) gives Sought (pos 0) 4
+          ∷ [];
+      after = record { used = 984; first = 3; next = 4; level = 7 };
+    }
+
+-- command 2 with len 0, its record dropped: 0, and nothing moves; 9 counts from the oldest record's first byte, and a later 2 goes on there
+abbrev pub none-of-dropped : Calls
+none-of-dropped =
+    record {
+      before = new;
+      earlier = [];
+      steps = outside 0 (replicate 960 97) gives Wrote (pos 960) 0
+          ∷ asked 2 5 (blank 5) gives Told (pos 5) (quoted "<12>a")
+          ∷ outside 0 (replicate 960 98) gives Wrote (pos 960) 1
+          ∷ asked 2 0 [] gives Told (pos 0) []
+          ∷ asked 9 0 [] gives Told (pos 965) []
+          ∷ asked 2 0 (blank 3) gives Told (pos 0) (blank 3)
+          ∷ asked 2 5 (blank 5) gives Told (pos 5) (quoted "<12>b")
+          ∷ asked 9 0 [] gives Told (pos 960) []
+          ∷ [];
+      after = record { used = 984; first = 1; next = 2; level = 7 };
+    }
+
 -- the console level: 8 sets it to len; the console question
 abbrev pub console-8 : Calls
 console-8 =
@@ -192,6 +260,9 @@ pages =
     ∷ calls from-box
     ∷ calls seeks
     ∷ calls goes-on
+    ∷ calls mark-passed
+    ∷ calls mark-passed-by-4
+    ∷ calls none-of-dropped
     ∷ calls console-8
     ∷ calls console-6
     ∷ calls console-7

@@ -15,7 +15,7 @@ use Rattle.moments.specs.Case.{Wrote, At, Read, Sought, Told, Checked, N
 -- ---- when the log says no
 
 -- a log by hand with these numbers; its buffer holds zeros
-abbrev byHand : ℕ → ℕ → ℕ → ℕ → State
+abbrev pub byHand : ℕ → ℕ → ℕ → ℕ → State
 byHand used first next level =
     record {
       log = record {
@@ -33,7 +33,7 @@ byHand used first next level =
     }
 
 -- 2^64 - 1
-abbrev last : ℕ
+abbrev pub last : ℕ
 last = 18446744073709551615
 
 -- -77 EBADFD: the log check fails, at the first heading; whatever else is wrong
@@ -250,7 +250,7 @@ abbrev sized : ℕ → Board
 sized size = state (set (replicate 8 emptySlot) 3 (slotOf (shows 1 (dots size)))) (dots 7680)
 
 -- the board after record 5 of channel 23 was shown
-abbrev board₁ : Board
+abbrev pub board₁ : Board
 board₁ = boardAfter board₀ (quoted "191,5,1,-;up\n" ∷ [])
 
 -- ---- the table

@@ -1,0 +1,151 @@
+-- Where document 01 says that a write puts its bytes: heading, text and dictionary as they lie in the buffer, the start place, and the bytes that stay
+-- as they were. A heading: time 8, sequence 8, text length 2, dictionary length 2, prefix 2, flag 45, zero; each number's lowest byte first.
+use Prim.Native.Nat.{ℕ}
+use mathlib.Core.List.{List, [], _∷_, _++_}
+use lib.IntN.{pos}
+use lib.ListN.{drop, replicate}
+use Rattle.slices.specs.Quoted.{quoted}
+use Rattle.history.specs.Calls.{outside, box, make, read, seek}
+use Rattle.moments.specs.Case.{Wrote, At, Read, Sought, Told, Step, _gives_, Leaves, Case, leaves, minus, blank, asked}
+
+-- 0x0102030405060708 and 0x1112131415161718 ns: no two bytes alike
+abbrev time₁ : ℕ
+time₁ = 72623859790382856
+
+abbrev time₂ : ℕ
+time₂ = 1230066625199609624
+
+-- ---- one write in a fresh log: it lies at place 0, and the bytes behind it stay
+
+-- T1's write at time₁: 24 + 11 = 35 bytes, prefix 134
+abbrev goal : List ℕ → List ℕ
+goal held =
+    (8 ∷ 7 ∷ 6 ∷ 5 ∷ 4 ∷ 3 ∷ 2 ∷ 1 ∷ [])
+    ++ (blank 8 ++ ((11 ∷ 0 ∷ 0 ∷ 0 ∷ 134 ∷ 0 ∷ 45 ∷ 0 ∷ []) ++ (quoted "GOAL home 1" ++ drop 35 held)))
+
+abbrev pub in-front : Leaves
+in-front =
+    record {
+      steps = outside time₁ (quoted "<134>GOAL home 1") gives Wrote (pos 16) 0 ∷ [];
+      numbers = record { start = 0; used = 35; first = 0; next = 1; clear = 0; position = 0; offset = 0; level = 7 };
+      buffer = goal;
+    }
+
+-- from the box: 9 bytes of text and behind it 6 of dictionary, zero byte and all; prefix 255 x 8 + 7 = 2,047 = 255 + 7 x 256
+abbrev pub with-dictionary : Leaves
+with-dictionary =
+    record {
+      steps = box 255 7 time₂ (quoted "bridge up") (quoted "k=1\0l=") gives Wrote (pos 15) 0 ∷ [];
+      numbers = record { start = 0; used = 39; first = 0; next = 1; clear = 0; position = 0; offset = 0; level = 7 };
+      buffer = λ held.
+          (24 ∷ 23 ∷ 22 ∷ 21 ∷ 20 ∷ 19 ∷ 18 ∷ 17 ∷ [])
+          ++ (blank 8 ++ ((9 ∷ 0 ∷ 6 ∷ 0 ∷ 255 ∷ 7 ∷ 45 ∷ 0 ∷ []) ++ (quoted "bridge upk=1\0l=" ++ drop 39 held)));
+    }
+
+-- no other call touches a byte: 2 moves its position alone, 5 the mark, 8 the level, seek and read the reader, and a refused write nothing
+abbrev pub only-marks : Leaves
+only-marks =
+    record {
+      steps = outside time₁ (quoted "<134>GOAL home 1") gives Wrote (pos 16) 0
+          ∷ make gives At 0
+          ∷ asked 2 5 (blank 5) gives Told (pos 5) (quoted "<134>")
+          ∷ asked 5 0 [] gives Told (pos 0) []
+          ∷ asked 8 3 [] gives Told (pos 0) []
+          ∷ outside time₂ (replicate 961 97) gives Wrote (minus 22) 0
+          ∷ seek 0 (pos 0) (pos 2) gives Sought (pos 0) 1
+          ∷ read 0 [] gives Read (minus 11) 0 1 []
+          ∷ [];
+      numbers = record { start = 0; used = 35; first = 0; next = 1; clear = 1; position = 0; offset = 5; level = 3 };
+      buffer = goal;
+    }
+
+-- ---- a record that runs past the buffer's end and goes on at its start
+
+-- 984 bytes at time₁, up to place 984: text of 960 = 192 + 3 x 256; then 24 + 20 = 44 bytes at time₂, of which 40 lie before the end
+abbrev over-the-end : List Step
+over-the-end =
+    outside time₁ (replicate 960 97) gives Wrote (pos 960) 0
+    ∷ outside time₂ (quoted "<134>GOAL home 1, away 0!") gives Wrote (pos 25) 1
+    ∷ []
+
+-- start is 984; the last 4 bytes lie at 0 to 3, and 4 to 983 stay what the dropped record left there
+abbrev pub text-over : Leaves
+text-over =
+    record {
+      steps = over-the-end;
+      numbers = record { start = 984; used = 44; first = 1; next = 2; clear = 0; position = 0; offset = 0; level = 7 };
+      buffer = λ held.
+          quoted "y 0!"
+          ++ ((4 ∷ 3 ∷ 2 ∷ 1 ∷ [])
+          ++ (blank 8
+          ++ ((192 ∷ 3 ∷ 0 ∷ 0 ∷ 12 ∷ 0 ∷ 45 ∷ 0 ∷ [])
+          ++ (replicate 960 97
+          ++ ((24 ∷ 23 ∷ 22 ∷ 21 ∷ 20 ∷ 19 ∷ 18 ∷ 17 ∷ [])
+          ++ ((1 ∷ blank 7) ++ ((20 ∷ 0 ∷ 0 ∷ 0 ∷ 134 ∷ 0 ∷ 45 ∷ 0 ∷ []) ++ quoted "GOAL home 1, awa")))))));
+    }
+
+-- then 984 bytes more: start goes on from 984 by 44, which is 4; they lie at 4 to 987, and 0 to 3 and 988 to 1,023 stay
+abbrev pub start-over : Leaves
+start-over =
+    record {
+      steps = over-the-end ++ (outside 0 (replicate 960 98) gives Wrote (pos 960) 1 ∷ []);
+      numbers = record { start = 4; used = 984; first = 2; next = 3; clear = 0; position = 0; offset = 0; level = 7 };
+      buffer = λ held.
+          quoted "y 0!"
+          ++ (blank 8
+          ++ ((2 ∷ blank 7)
+          ++ ((192 ∷ 3 ∷ 0 ∷ 0 ∷ 12 ∷ 0 ∷ 45 ∷ 0 ∷ [])
+          ++ (replicate 960 98
+          ++ ((20 ∷ 19 ∷ 18 ∷ 17 ∷ [])
+          ++ ((1 ∷ blank 7) ++ ((20 ∷ 0 ∷ 0 ∷ 0 ∷ 134 ∷ 0 ∷ 45 ∷ 0 ∷ []) ++ quoted "GOAL home 1, awa")))))));
+    }
+
+-- 984 + 37 = 1,021: three bytes of the third record's time lie before the end, the other 22 bytes of it at 0 to 21
+abbrev pub heading-over : Leaves
+heading-over =
+    record {
+      steps = outside time₂ (replicate 960 97) gives Wrote (pos 960) 0
+          ∷ outside 256 (quoted "Kick-off 0-0.") gives Wrote (pos 13) 0
+          ∷ outside time₁ (quoted "<134>x") gives Wrote (pos 6) 1
+          ∷ [];
+      numbers = record { start = 984; used = 62; first = 1; next = 3; clear = 0; position = 0; offset = 0; level = 7 };
+      buffer = λ held.
+          (5 ∷ 4 ∷ 3 ∷ 2 ∷ 1 ∷ [])
+          ++ ((2 ∷ blank 7)
+          ++ ((1 ∷ 0 ∷ 0 ∷ 0 ∷ 134 ∷ 0 ∷ 45 ∷ 0 ∷ [])
+          ++ (quoted "x"
+          ++ ((45 ∷ 0 ∷ [])
+          ++ (replicate 960 97
+          ++ ((0 ∷ 1 ∷ blank 6)
+          ++ ((1 ∷ blank 7) ++ ((13 ∷ 0 ∷ 0 ∷ 0 ∷ 12 ∷ 0 ∷ 45 ∷ 0 ∷ []) ++ (quoted "Kick-off 0-0." ++ (8 ∷ 7 ∷ 6 ∷ []))))))))));
+    }
+
+-- ---- command 2 with len 0
+
+-- its record was dropped, and the position stays there, at byte 5 of record 0, below first. The second record of 984 bytes lies at 984 to 1,023
+-- and 0 to 943; 40 bytes of the first are left before it
+abbrev pub position-stays : Leaves
+position-stays =
+    record {
+      steps = outside 0 (replicate 960 97) gives Wrote (pos 960) 0
+          ∷ asked 2 5 (blank 5) gives Told (pos 5) (quoted "<12>a")
+          ∷ outside 0 (replicate 960 98) gives Wrote (pos 960) 1
+          ∷ asked 2 0 [] gives Told (pos 0) []
+          ∷ [];
+      numbers = record { start = 984; used = 984; first = 1; next = 2; clear = 0; position = 0; offset = 5; level = 7 };
+      buffer = λ held.
+          replicate 944 98
+          ++ (replicate 40 97
+          ++ (blank 8 ++ ((1 ∷ blank 7) ++ ((192 ∷ 3 ∷ 0 ∷ 0 ∷ 12 ∷ 0 ∷ 45 ∷ 0 ∷ []) ++ replicate 16 98))));
+    }
+
+abbrev pub stored : List Case
+stored =
+    leaves in-front
+    ∷ leaves with-dictionary
+    ∷ leaves only-marks
+    ∷ leaves text-over
+    ∷ leaves start-over
+    ∷ leaves heading-over
+    ∷ leaves position-stays
+    ∷ []
