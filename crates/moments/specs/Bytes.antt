@@ -122,21 +122,23 @@ heading-over =
 
 -- ---- command 2 with len 0
 
--- its record was dropped, and the position stays there, at byte 5 of record 0, below first. The second record of 984 bytes lies at 984 to 1,023
--- and 0 to 943; 40 bytes of the first are left before it
+-- its record was dropped, and the position stays there, at byte 5 of record 0, below first. 24 + 17 = 41 bytes: the last of them lies at 0
 abbrev pub position-stays : Leaves
 position-stays =
     record {
       steps = outside 0 (replicate 960 97) gives Wrote (pos 960) 0
           ∷ asked 2 5 (blank 5) gives Told (pos 5) (quoted "<12>a")
-          ∷ outside 0 (replicate 960 98) gives Wrote (pos 960) 1
+          ∷ outside 0 (quoted "GOAL home 1-0 now") gives Wrote (pos 17) 1
           ∷ asked 2 0 [] gives Told (pos 0) []
           ∷ [];
-      numbers = record { start = 984; used = 984; first = 1; next = 2; clear = 0; position = 0; offset = 5; level = 7 };
+      numbers = record { start = 984; used = 41; first = 1; next = 2; clear = 0; position = 0; offset = 5; level = 7 };
       buffer = λ held.
-          replicate 944 98
-          ++ (replicate 40 97
-          ++ (blank 8 ++ ((1 ∷ blank 7) ++ ((192 ∷ 3 ∷ 0 ∷ 0 ∷ 12 ∷ 0 ∷ 45 ∷ 0 ∷ []) ++ replicate 16 98))));
+          quoted "w"
+          ++ (blank 7
+          ++ (blank 8
+          ++ ((192 ∷ 3 ∷ 0 ∷ 0 ∷ 12 ∷ 0 ∷ 45 ∷ 0 ∷ [])
+          ++ (replicate 960 97
+          ++ (blank 8 ++ ((1 ∷ blank 7) ++ ((17 ∷ 0 ∷ 0 ∷ 0 ∷ 12 ∷ 0 ∷ 45 ∷ 0 ∷ []) ++ quoted "GOAL home 1-0 no")))))));
     }
 
 abbrev pub stored : List Case
