@@ -1,4 +1,4 @@
--- A case on a fresh log, by computing the history, with which the log agrees.
+-- A case on a fresh log, by computing the history, with which the log agrees; what calls leave over any bytes, by computing over bytes that are named.
 use Prim.Native.Nat.{ℕ, zero, suc, _+_}
 use mathlib.Core.Path.{_≡_, refl, ap, _∙_}
 use mathlib.Core.Bool.{Bool, true, _&&_}
@@ -11,14 +11,17 @@ use lib.ListN.{length, getD, drop}
 use Rattle.slices.specs.Tests.{every}
 use Rattle.slices.proofs.Bools.{and-left, and-right, every-first, every-other}
 use Rattle.record.specs.Limits.{wordMost}
+use Rattle.log.specs.View.{Marks, View}
+use Rattle.log.specs.Check.{freshLog, marksOf, viewOf}
 use Rattle.log.specs.Excess.{total}
 use Rattle.store.proofs.HoldsLaws.{used-is}
-use Rattle.history.specs.Calls.{Call, outside, box, make, place, read, seek, command, check, console, State, step}
+use Rattle.history.specs.Calls.{Call, outside, box, make, place, read, seek, command, check, console, State, step, stateAfter}
 use Rattle.history.specs.Past.{Past, firstHeld, held, pastStep, pastAfter, freshPast}
 use Rattle.history.specs.Demand2.{fresh, Timed, AllTimed}
 use Rattle.history.proofs.SoundLaws.{Sound, sound-step, sound-after, sound-fresh}
 use Rattle.history.proofs.Demand2.{Agrees, first-is, next-is, level-is, agree-step, agree-after, agree-fresh}
-use Rattle.moments.specs.Case.{seenOf, Outcome, outcomeOf, callOf, Calls, outcome, GivesFrom, Leaves, LeavesFrom}
+use Rattle.moments.specs.Case.{seenOf, Outcome, outcomeOf, callOf, Calls, outcome, GivesFrom, Numbers, numbersOf, Left, leftBy, Leaves, leftOf, LeavesFrom}
+use Rattle.moments.proofs.LyingLaws.{Lying, lyingIn, lyingAfter, lies-after}
 
 -- ---- times of 64 bits, by a test
 
@@ -103,5 +106,61 @@ listed-is (x ∷ xs) k f h =
     rw e (h (suc i))) in
     rw (first, rest)
 
-pub on-any : (l : Leaves) → ((f : ℕ → ℕ) → LeavesFrom (listed 1024 0 f) l) → (held : List ℕ) → length held ≡ 1024 → LeavesFrom held l
-on-any l h held e = rw (rw e at (listed-is held 0 (λ (i : ℕ). getD held i 0) (λ i. rw zero-add))) at (h (λ (i : ℕ). getD held i 0))
+-- ---- what the history says that calls leave
+
+unfoldable pub pastNumbers : Past → ℕ → Numbers
+pastNumbers p start =
+    record {
+      start = start;
+      used = total (held p .records);
+      first = firstHeld p;
+      next = length (p .all);
+      clear = p .marks .clear;
+      position = p .marks .position;
+      offset = p .marks .offset;
+      level = p .marks .level;
+    }
+
+module _ (s : State) (p : Past) (a : Agrees s p) (ok : Sound p) where
+  marks-are : marksOf (s .log) ≡ p .marks
+  unfolding viewOf held
+  marks-are = ap (λ (v : View). v .marks) (a .same)
+
+  agree-numbers : numbersOf (s .log) ≡ pastNumbers p (s .log .start .0)
+  unfolding pastNumbers marksOf
+  agree-numbers =
+      let c : s .log .clear .0 ≡ p .marks .clear = ap (λ (m : Marks). m .clear) marks-are in
+      let n : s .log .position .0 ≡ p .marks .position = ap (λ (m : Marks). m .position) marks-are in
+      let o : s .log .offset ≡ p .marks .offset = ap (λ (m : Marks). m .offset) marks-are in
+      rw (used-is (s .log) (s .buffer) (held p .records) (a .holds), first-is s p a ok, next-is s p a ok, c, n, o, level-is s p a ok)
+
+unfoldable pub pastLeft : Past → Lying → List Call → Left
+pastLeft p y cs =
+    let end = lyingAfter p y cs in
+    record { seen = pastOutcome p cs .seen; numbers = pastNumbers (pastAfter p cs) (end .start); buffer = end .buffer }
+
+agree-left : (cs : List Call) (s : State) (p : Past) → Agrees s p → Sound p → AllTimed cs → leftBy s cs ≡ pastLeft p (lyingIn s) cs
+unfolding pastLeft
+agree-left cs s p a ok t =
+    let seen = ap (λ (o : Outcome). o .seen) (agree-outcome cs s p a ok t) in
+    let numbers = agree-numbers (stateAfter s cs) (pastAfter p cs) (agree-after cs s p a ok t) (sound-after cs p ok t) in
+    let lies = lies-after cs s p a ok t in
+    let start = ap (λ (y : Lying). y .start) lies in
+    let buffer = ap (λ (y : Lying). y .buffer) lies in
+    rw (seen, numbers, start, buffer)
+
+-- whether a case's times are of 64 bits, and what is left over these bytes
+unfoldable pub sightLeft : Leaves → List ℕ → Bool × Left
+sightLeft l held =
+    let cs = map callOf (l .steps) in
+    (every isTimed cs, pastLeft (freshPast 1024) (record { start = 0; buffer = held }) cs)
+
+pub on-any : (l : Leaves) → ((f : ℕ → ℕ) → sightLeft l (listed 1024 0 f) ≡ (true, leftOf l (listed 1024 0 f)))
+    → (held : List ℕ) → length held ≡ 1024 → LeavesFrom held l
+unfolding sightLeft fresh freshLog
+on-any l h held e =
+    let named : listed 1024 0 (λ (i : ℕ). getD held i 0) ≡ held = rw e at (listed-is held 0 (λ (i : ℕ). getD held i 0) (λ i. rw zero-add)) in
+    let g : sightLeft l held ≡ (true, leftOf l held) = rw named at (h (λ (i : ℕ). getD held i 0)) in
+    let a : Agrees (fresh held) (freshPast 1024) = rw e at (agree-fresh held (omega arith) (omega arith)) in
+    let t = all-timed (map callOf (l .steps)) (ap (λ (x : Bool × Left). x .0) g) in
+    agree-left (map callOf (l .steps)) (fresh held) (freshPast 1024) a (sound-fresh 1024 (omega arith)) t ∙ ap (λ (x : Bool × Left). x .1) g

@@ -8,7 +8,7 @@ use Rattle.record.specs.Heading.{headingOf, headingBytes, headingCost, headingF
 use Rattle.ring.specs.Ring.{unrolled, wrapped, ringPut}
 use Rattle.record.specs.Forms.{kmsgEntries, kmsgHeader, kmsgLine, syslogForm, syslogForms, syslogLength}
 use Rattle.log.specs.View.{nextOf, recordAt}
-use Rattle.log.specs.Check.{freshLog, numbersFit, dictionaryBytes, recordFits, after, recordOf, skipped, walked, recordsIn, offsetFits, finished, checked, marksOf, viewOf, withMarks, ruled}
+use Rattle.log.specs.Check.{numbersFit, dictionaryBytes, recordFits, after, recordOf, skipped, walked, recordsIn, offsetFits, finished, checked, marksOf, viewOf, withMarks, ruled}
 use Rattle.log.specs.Excess.{excess}
 use Rattle.store.specs.Write.{droppedBy, keptBy, writtenLog, writtenBuffer}
 use Rattle.front.specs.Prefix.{hasPrefix, prefixIn, afterPrefix, notKernel, withoutNewline}
@@ -18,7 +18,6 @@ use Rattle.kmsg.specs.Read.{reading as kmsgReading}
 use Rattle.forms.specs.Copy.{onward}
 use Rattle.syslog.specs.Command.{fromNumber, fromOffset, unreadRecords, unread, copied, moved, sinceClear, lastOf, commandRuling, marksAfter, given, count, commandBy, commanding}
 use Rattle.history.specs.Calls.{step, stateAfter}
-use Rattle.history.specs.Demand2.{fresh as freshLogged}
 use Rattle.history.specs.Past.{firstHeld, held, pastWrite, pastStep, pastAfter, freshPast}
 use Rattle.header.specs.Header.{header, fields, field, lacksHeader, lacksNumber}
 use Rattle.message.specs.Message.{body, lines, text, continuations, dictionary, isLong, isUnended, hasWrongByte, hasWrongEntry, isBulky, refusal, reading}
@@ -31,11 +30,12 @@ use Rattle.moments.specs.Pages.{pages, prefixes, from-box, seeks, goes-o
 use Rattle.moments.specs.Bytes.{in-front, with-dictionary, only-marks, text-over, start-over, heading-over, position-stays}
 use Rattle.moments.specs.Pairs.{together, eperm-before-einval, efault-between, eperm-alone}
 use Rattle.moments.specs.Claim.{Claim}
-use Rattle.moments.proofs.CaseLaws.{isTimed, pastOutcome, sight, on-fresh, listed, on-any}
+use Rattle.moments.proofs.CaseLaws.{isTimed, pastOutcome, sight, on-fresh, listed, pastNumbers, pastLeft, sightLeft, on-any}
+use Rattle.moments.proofs.LyingLaws.{laid, lyingWrite, lyingStep, lyingAfter}
 
 -- what the rows are computed by, named once for all of them
 unfoldable the-definitions : Unit {0}
-unfolding decimal value plainDecimal wellEscaped unescape isDictionary cost headingOf headingBytes headingCost headingFits recordHeading recordBytes unrolled wrapped ringPut kmsgEntries kmsgHeader kmsgLine syslogForm syslogForms syslogLength nextOf recordAt numbersFit dictionaryBytes recordFits after recordOf skipped walked recordsIn offsetFits finished checked marksOf viewOf withMarks ruled excess droppedBy keptBy writtenLog writtenBuffer hasPrefix prefixIn afterPrefix notKernel withoutNewline outsideRecord boxRecord outsideRuling boxRuling writeBy outsideWrite boxWrite lineAt readRuling readRefused readDone readBy kmsgReading seekRuling seekPlace seekBy seeking fromNumber fromOffset unreadRecords unread copied onward moved sinceClear lastOf commandRuling marksAfter given count commandBy commanding step stateAfter firstHeld held pastWrite pastStep pastAfter freshPast header fields field body lines text continuations dictionary isLong isUnended lacksHeader lacksNumber hasWrongByte hasWrongEntry isBulky refusal reading lineRefusal readLine fresh lacksRoom boardRefusal show deliver isTimed pastOutcome sight listed freshLog freshLogged
+unfolding decimal value plainDecimal wellEscaped unescape isDictionary cost headingOf headingBytes headingCost headingFits recordHeading recordBytes unrolled wrapped ringPut kmsgEntries kmsgHeader kmsgLine syslogForm syslogForms syslogLength nextOf recordAt numbersFit dictionaryBytes recordFits after recordOf skipped walked recordsIn offsetFits finished checked marksOf viewOf withMarks ruled excess droppedBy keptBy writtenLog writtenBuffer hasPrefix prefixIn afterPrefix notKernel withoutNewline outsideRecord boxRecord outsideRuling boxRuling writeBy outsideWrite boxWrite lineAt readRuling readRefused readDone readBy kmsgReading seekRuling seekPlace seekBy seeking fromNumber fromOffset unreadRecords unread copied onward moved sinceClear lastOf commandRuling marksAfter given count commandBy commanding step stateAfter firstHeld held pastWrite pastStep pastAfter freshPast header fields field body lines text continuations dictionary isLong isUnended lacksHeader lacksNumber hasWrongByte hasWrongEntry isBulky refusal reading lineRefusal readLine fresh lacksRoom boardRefusal show deliver isTimed pastOutcome sight listed pastNumbers pastLeft sightLeft laid lyingWrite lyingStep lyingAfter
 the-definitions = tt
 
 -- T1 to T16

@@ -1,2 +1,3 @@
+pub mod LyingLaws
 pub mod CaseLaws
 pub mod ClaimProof
