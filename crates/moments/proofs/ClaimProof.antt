@@ -23,17 +23,17 @@ use Rattle.header.specs.Header.{header, fields, field, lacksHeader, lacksNumber
 use Rattle.message.specs.Message.{body, lines, text, continuations, dictionary, isLong, isUnended, hasWrongByte, hasWrongEntry, isBulky, refusal, reading}
 use Rattle.message.specs.Line.{lineRefusal, readLine}
 use Rattle.board.specs.Board.{fresh, lacksRoom, boardRefusal, show, deliver}
-use Rattle.moments.specs.Case.{leaves, Agrees, AllAgree, done, _and_}
+use Rattle.moments.specs.Case.{AllAgree, done, _and_}
 use Rattle.moments.specs.Table.{t1, t2, t3, t4, t5, t6, t7, t8, t9, t10, t11, t12, last-line, TableAgrees}
 use Rattle.moments.specs.Refusals.{refusals, readers-refused, writes-refused, commands-refused}
 use Rattle.moments.specs.Pages.{pages, prefixes, from-box, seeks, goes-on, mark-passed, mark-passed-by-4, none-of-dropped, console-8, console-6, console-7, overtaken-end}
-use Rattle.moments.specs.Bytes.{in-front, with-dictionary, only-marks, text-over, start-over, heading-over, position-stays}
+use Rattle.moments.specs.Bytes.{stored, in-front, with-dictionary, only-marks, text-over, start-over, heading-over, dictionary-over, just-full, full-goes-on, position-stays}
 use Rattle.moments.specs.Pairs.{together, eperm-before-einval, efault-between, eperm-alone}
 use Rattle.moments.specs.Claim.{Claim}
 use Rattle.moments.proofs.CaseLaws.{isTimed, pastOutcome, sight, on-fresh, listed, pastNumbers, pastLeft, sightLeft, on-any}
 use Rattle.moments.proofs.LyingLaws.{laid, lyingWrite, lyingStep, lyingAfter}
 
--- what the rows are computed by, named once for all of them
+-- what the rows are computed by, named once for all tables; each table is a declaration, since the prover counts its steps by declaration
 unfoldable the-definitions : Unit {0}
 unfolding decimal value plainDecimal wellEscaped unescape isDictionary cost headingOf headingBytes headingCost headingFits recordHeading recordBytes unrolled wrapped ringPut kmsgEntries kmsgHeader kmsgLine syslogForm syslogForms syslogLength nextOf recordAt numbersFit dictionaryBytes recordFits after recordOf skipped walked recordsIn offsetFits finished checked marksOf viewOf withMarks ruled excess droppedBy keptBy writtenLog writtenBuffer hasPrefix prefixIn afterPrefix notKernel withoutNewline outsideRecord boxRecord outsideRuling boxRuling writeBy outsideWrite boxWrite lineAt readRuling readRefused readDone readBy kmsgReading seekRuling seekPlace seekBy seeking fromNumber fromOffset unreadRecords unread copied onward moved sinceClear lastOf commandRuling marksAfter given count commandBy commanding step stateAfter firstHeld held pastWrite pastStep pastAfter freshPast header fields field body lines text continuations dictionary isLong isUnended lacksHeader lacksNumber hasWrongByte hasWrongEntry isBulky refusal reading lineRefusal readLine fresh lacksRoom boardRefusal show deliver isTimed pastOutcome sight listed pastNumbers pastLeft sightLeft laid lyingWrite lyingStep lyingAfter
 the-definitions = tt
@@ -121,33 +121,20 @@ pages-agree =
     and refl
     and done
 
-in-front-agrees : Agrees (leaves in-front)
+stored-agree : AllAgree stored
 unfolding the-definitions
-in-front-agrees = on-any in-front (λ f. refl)
-
-with-dictionary-agrees : Agrees (leaves with-dictionary)
-unfolding the-definitions
-with-dictionary-agrees = on-any with-dictionary (λ f. refl)
-
-only-marks-agrees : Agrees (leaves only-marks)
-unfolding the-definitions
-only-marks-agrees = on-any only-marks (λ f. refl)
-
-text-over-agrees : Agrees (leaves text-over)
-unfolding the-definitions
-text-over-agrees = on-any text-over (λ f. refl)
-
-start-over-agrees : Agrees (leaves start-over)
-unfolding the-definitions
-start-over-agrees = on-any start-over (λ f. refl)
-
-heading-over-agrees : Agrees (leaves heading-over)
-unfolding the-definitions
-heading-over-agrees = on-any heading-over (λ f. refl)
-
-position-stays-agrees : Agrees (leaves position-stays)
-unfolding the-definitions
-position-stays-agrees = on-any position-stays (λ f. refl)
+stored-agree =
+    on-any in-front (λ f. refl)
+    and on-any with-dictionary (λ f. refl)
+    and on-any only-marks (λ f. refl)
+    and on-any text-over (λ f. refl)
+    and on-any start-over (λ f. refl)
+    and on-any heading-over (λ f. refl)
+    and on-any dictionary-over (λ f. refl)
+    and on-any just-full (λ f. refl)
+    and on-any full-goes-on (λ f. refl)
+    and on-any position-stays (λ f. refl)
+    and done
 
 pairs-agree : AllAgree together
 unfolding the-definitions
@@ -172,13 +159,6 @@ all-agree =
       moments = table-agrees;
       refused = refusals-agree;
       others = pages-agree;
-      bytes = in-front-agrees
-          and with-dictionary-agrees
-          and only-marks-agrees
-          and text-over-agrees
-          and start-over-agrees
-          and heading-over-agrees
-          and position-stays-agrees
-          and done;
+      bytes = stored-agree;
       pairs = pairs-agree;
     }

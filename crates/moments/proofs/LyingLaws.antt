@@ -50,8 +50,9 @@ module _ (b xs : List ℕ) (p : ℕ) (inside : p < length b) (some : length xs �
     | yes h ↦ rw (drop-of-length-le xs h)
     | no h ↦
         let e : p + length (take k xs) ≡ length c = simp length-take (omega arith) in
+        let none : length c - length c ≡ 0 = omega arith in
         let z : wrapped (length c) (length c) ≡ wrapped (length c) 0 =
-        wrapped-far (length c) (length c) (omega arith) (omega arith) ∙ (let d : length c - length c ≡ 0 = omega arith in d) ∙ sym (wrapped-near (length c) 0 (omega arith)) in
+        wrapped-far (length c) (length c) (omega arith) (omega arith) ∙ none ∙ sym (wrapped-near (length c) 0 (omega arith)) in
         rw e (ringPut-place (drop k xs) c (length c) 0 (omega arith) z ∙ ringPut-straight (drop k xs) c 0 (simp length-drop (omega arith)))
   ]
 

@@ -120,6 +120,60 @@ heading-over =
           ++ ((1 ∷ blank 7) ++ ((13 ∷ 0 ∷ 0 ∷ 0 ∷ 12 ∷ 0 ∷ 45 ∷ 0 ∷ []) ++ (quoted "Kick-off 0-0." ++ (8 ∷ 7 ∷ 6 ∷ []))))))))));
     }
 
+-- 24 + 12 = 36: the dictionary's first four bytes, its zero byte the last, lie at 1,020 to 1,023, the other two at 0 and 1; prefix 3 x 8 + 6 = 30
+abbrev pub dictionary-over : Leaves
+dictionary-over =
+    record {
+      steps = outside time₁ (replicate 960 97) gives Wrote (pos 960) 0
+          ∷ box 3 6 time₂ (quoted "bridge 12 up") (quoted "k=1\0l=") gives Wrote (pos 18) 1
+          ∷ [];
+      numbers = record { start = 984; used = 42; first = 1; next = 2; clear = 0; position = 0; offset = 0; level = 7 };
+      buffer = λ held.
+          quoted "l="
+          ++ ((6 ∷ 5 ∷ 4 ∷ 3 ∷ 2 ∷ 1 ∷ [])
+          ++ (blank 8
+          ++ ((192 ∷ 3 ∷ 0 ∷ 0 ∷ 12 ∷ 0 ∷ 45 ∷ 0 ∷ [])
+          ++ (replicate 960 97
+          ++ ((24 ∷ 23 ∷ 22 ∷ 21 ∷ 20 ∷ 19 ∷ 18 ∷ 17 ∷ [])
+          ++ ((1 ∷ blank 7) ++ ((12 ∷ 0 ∷ 6 ∷ 0 ∷ 30 ∷ 0 ∷ 45 ∷ 0 ∷ []) ++ quoted "bridge 12 upk=1\0")))))));
+    }
+
+-- 984 + 40 = 1,024: nothing is dropped, and the log is full up to its end
+abbrev to-the-end : List Step
+to-the-end =
+    outside time₁ (replicate 960 97) gives Wrote (pos 960) 0
+    ∷ outside time₂ (quoted "GOAL home 1-0 no") gives Wrote (pos 16) 0
+    ∷ []
+
+abbrev pub just-full : Leaves
+just-full =
+    record {
+      steps = to-the-end;
+      numbers = record { start = 0; used = 1024; first = 0; next = 2; clear = 0; position = 0; offset = 0; level = 7 };
+      buffer = λ held.
+          (8 ∷ 7 ∷ 6 ∷ 5 ∷ 4 ∷ 3 ∷ 2 ∷ 1 ∷ [])
+          ++ (blank 8
+          ++ ((192 ∷ 3 ∷ 0 ∷ 0 ∷ 12 ∷ 0 ∷ 45 ∷ 0 ∷ [])
+          ++ (replicate 960 97
+          ++ ((24 ∷ 23 ∷ 22 ∷ 21 ∷ 20 ∷ 19 ∷ 18 ∷ 17 ∷ [])
+          ++ ((1 ∷ blank 7) ++ ((16 ∷ 0 ∷ 0 ∷ 0 ∷ 12 ∷ 0 ∷ 45 ∷ 0 ∷ []) ++ quoted "GOAL home 1-0 no"))))));
+    }
+
+-- then an empty write: the first record goes, its text stays where it lay, and the new heading lies at 0 to 23
+abbrev pub full-goes-on : Leaves
+full-goes-on =
+    record {
+      steps = to-the-end ++ (outside 0 [] gives Wrote (pos 0) 1 ∷ []);
+      numbers = record { start = 984; used = 64; first = 1; next = 3; clear = 0; position = 0; offset = 0; level = 7 };
+      buffer = λ held.
+          blank 8
+          ++ ((2 ∷ blank 7)
+          ++ ((0 ∷ 0 ∷ 0 ∷ 0 ∷ 12 ∷ 0 ∷ 45 ∷ 0 ∷ [])
+          ++ (replicate 960 97
+          ++ ((24 ∷ 23 ∷ 22 ∷ 21 ∷ 20 ∷ 19 ∷ 18 ∷ 17 ∷ [])
+          ++ ((1 ∷ blank 7) ++ ((16 ∷ 0 ∷ 0 ∷ 0 ∷ 12 ∷ 0 ∷ 45 ∷ 0 ∷ []) ++ quoted "GOAL home 1-0 no"))))));
+    }
+
 -- ---- command 2 with len 0
 
 -- its record was dropped, and the position stays there, at byte 5 of record 0, below first. 24 + 17 = 41 bytes: the last of them lies at 0
@@ -149,5 +203,8 @@ stored =
     ∷ leaves text-over
     ∷ leaves start-over
     ∷ leaves heading-over
+    ∷ leaves dictionary-over
+    ∷ leaves just-full
+    ∷ leaves full-goes-on
     ∷ leaves position-stays
     ∷ []

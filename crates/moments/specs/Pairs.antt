@@ -12,7 +12,7 @@ use Rattle.moments.specs.Refusals.{byHand, last, board₁}
 
 -- ---- the log
 
--- -77 before every other: console level 9 doesn't fit, and besides: -22 (961 bytes, facility 256, whence 1, type 11, len -1), -75 (next is
+-- -77 before every other: console level 9 doesn't fit, and besides: -22 (961 bytes, facility 256, whence 1, type 11), -75 (next is
 -- 2^64 - 1), -29 (offset 1), -32 (a reader at 0), -11 (one at next; nothing unread), -1, -14
 abbrev pub ebadfd-first : Calls
 ebadfd-first =
