@@ -11,10 +11,11 @@ use Rattle.log.specs.Answer.{Ruling, allowed, refused}
 use Rattle.log.proofs.ExcessLaws.{excess-few}
 use Rattle.store.proofs.HoldsLaws.{goes}
 use Rattle.writes.specs.Write.{outsideRecord, boxRecord, outsideRuling, boxRuling}
+use Rattle.writes.specs.FineLog.{droppedMost}
 use Rattle.writes.proofs.StorableLaws.{outside-payload, box-payload}
 use Rattle.history.specs.Calls.{outside, box, make, place, read, seek, command, check, console, ifThere}
 use Rattle.history.specs.Past.{Past, firstHeld, held, Told, nextNumber, pastWrite, pastStep}
-use Rattle.history.specs.Readers.{droppedMost, FewDropped, DropsFew}
+use Rattle.history.specs.Readers.{FewDropped, DropsFew}
 use Rattle.history.proofs.HeldLaws.{held-longest, first-grown}
 
 few-there : (t : Bool) (x y : Told) → FewDropped (x .reply) → FewDropped (y .reply) → FewDropped (ifThere {A = Told} t x y .reply)

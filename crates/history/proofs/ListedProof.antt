@@ -33,7 +33,7 @@ use Rattle.syslog.proofs.UnreadLaws.{nothing-unread as nothing-unread-law}
 use Rattle.syslog.specs.declared.Asked.{Asked}
 use Rattle.history.specs.Calls.{Call, outside, box, make, place, read, seek, command, check, console, State, Stepped, readerOf, ifThere, step}
 use Rattle.history.specs.Demand1.{Answers}
-use Rattle.history.specs.Listed.{Copying, Open, Applies, check-fails, above-next, without-privilege, offset-not-0, other-whence, unknown-type, len-below-0, level-outside, over-960, over-960-together, bad-facility, bad-level, bad-dictionary, line-longer, above-lent, outside-at-last, box-at-last, below-first, at-next, nothing-unread, table, readTable, order, Asking, IsCount, Listed, answered}
+use Rattle.history.specs.Listed.{Copying, Open, Applies, check-fails, above-next, without-privilege, offset-not-0, other-whence, unknown-type, len-below-0, level-outside, over-960, over-960-together, bad-facility, bad-level, bad-dictionary, line-longer, above-lent, outside-at-last, box-at-last, below-first, at-next, nothing-unread, tableNumber, table, readTable, order, Asking, IsCount, Listed, answered}
 use Rattle.history.proofs.ListedTests.{both, fails, not-holds, and-holds, is-true, true-is, one-true, one-of, negative, copying, copying-true, unknown, unknown-true, refused-permission, permission-refused, level-wrong, wrong-level, above, above-true}
 
 -- ---- a test for each row
@@ -262,7 +262,7 @@ checkedFirst true q = refused EBADFD
 checkedFirst false q = q
 
 abbrev firstRow : List Refusal → (Refusal → Bool) → ℤ → ℤ
-firstRow rows t done = firstOf (map (λ (r : Refusal). (t r, refusalNumber r)) rows) done
+firstRow rows t done = firstOf (map (λ (r : Refusal). (t r, tableNumber r)) rows) done
 
 first-outside : (bad t u : Bool) (done : ℤ)
     → numberBy done (checkedFirst bad (rulingOf ((t, EINVAL) ∷ (u, EOVERFLOW) ∷ []))) ≡ firstRow table (row bad false false t false u false false) done
@@ -318,31 +318,31 @@ abbrev code : ℤ → ℕ
 code (pos n) = 0
 code (negsuc n) = n + 1
 
-pub rows-apart : (c : Call) (k : ℕ) → Numbered (order c) refusalNumber (pos k)
-rows-apart (outside time bytes) k = numbered code table refusalNumber (pos k) refl
-rows-apart (box facility level time text dictionary) k = numbered code table refusalNumber (pos k) refl
-rows-apart make k = numbered code table refusalNumber (pos k) refl
-rows-apart (place i n) k = numbered code table refusalNumber (pos k) refl
-rows-apart (read i lent) k = numbered code readTable refusalNumber (pos k) refl
-rows-apart (seek i offset whence) k = numbered code table refusalNumber (pos k) refl
-rows-apart (command a lent) k = numbered code table refusalNumber (pos k) refl
-rows-apart check k = numbered code table refusalNumber (pos k) refl
-rows-apart (console level setting) k = numbered code table refusalNumber (pos k) refl
+pub rows-apart : (c : Call) (k : ℕ) → Numbered (order c) tableNumber (pos k)
+rows-apart (outside time bytes) k = numbered code table tableNumber (pos k) refl
+rows-apart (box facility level time text dictionary) k = numbered code table tableNumber (pos k) refl
+rows-apart make k = numbered code table tableNumber (pos k) refl
+rows-apart (place i n) k = numbered code table tableNumber (pos k) refl
+rows-apart (read i lent) k = numbered code readTable tableNumber (pos k) refl
+rows-apart (seek i offset whence) k = numbered code table tableNumber (pos k) refl
+rows-apart (command a lent) k = numbered code table tableNumber (pos k) refl
+rows-apart check k = numbered code table tableNumber (pos k) refl
+rows-apart (console level setting) k = numbered code table tableNumber (pos k) refl
 
 abbrev pub isBad : Verdict → Bool
 isBad Fine = false
 isBad Numbers = true
 isBad (Heading i) = true
 
-bad-not-fine : (x : Verdict) → isBad x ≡ true → x ≡ Fine → ⊥
+pub bad-not-fine : (x : Verdict) → isBad x ≡ true → x ≡ Fine → ⊥
 bad-not-fine x e f = false≢true (sym (ap isBad f) ∙ e)
 
-not-fine-bad : (x : Verdict) → (x ≡ Fine → ⊥) → isBad x ≡ true
+pub not-fine-bad : (x : Verdict) → (x ≡ Fine → ⊥) → isBad x ≡ true
 not-fine-bad Fine h = absurd (h refl)
 not-fine-bad Numbers h = refl
 not-fine-bad (Heading i) h = refl
 
-fine-of : (x : Verdict) → isBad x ≡ false → x ≡ Fine
+pub fine-of : (x : Verdict) → isBad x ≡ false → x ≡ Fine
 fine-of Fine e = refl
 fine-of Numbers e = absurd (true≢false e)
 fine-of (Heading i) e = absurd (true≢false e)
@@ -412,9 +412,9 @@ module _ (s : State) (failing : Type 0) (bs : isBad (checked (s .log) (s .buffer
   wrong = isBad (checked (s .log) (s .buffer))
 
   exact : (c : Call) (k : ℕ) (n : ℤ) → n ≡ firstRow (order c) (test wrong view (s .readers) c) (pos k)
-      → Exactly (order c) refusalNumber (Applies failing view (s .readers) c) (IsCount n) n
+      → Exactly (order c) tableNumber (Applies failing view (s .readers) c) (IsCount n) n
   exact c k n e =
-      exactly (order c) refusalNumber (Applies failing view (s .readers) c) (IsCount n) (test wrong view (s .readers) c) (pos k) n
+      exactly (order c) tableNumber (Applies failing view (s .readers) c) (IsCount n) (test wrong view (s .readers) c) (pos k) n
       (λ r i. sound failing wrong bs bc view (s .readers) c r) (λ r i. complete failing wrong bs bc view (s .readers) c r) (rows-apart c k) e
       (λ q. subst IsCount (sym q) tt)
 

@@ -1,7 +1,7 @@
 -- Document 01's table "When the log says no", as it is written: a line for each phrase, in the words of what the log holds, the reader's number
 -- and what is handed in. None of the tests that the calls' definitions are made of is in it, so that a log which refuses more, less or in
--- another order does not meet it.
-use Prim.Native.Nat.{ℕ, _+_, _<_, _≤_}
+-- another order does not meet it. The figures are the paper's own, as in the tables of cases: a limit that is moved in its definition is refused here.
+use Prim.Native.Nat.{ℕ, _+_, _-_, _^_, _<_, _≤_}
 use mathlib.Core.Path.{_≡_}
 use mathlib.Core.Logic.{_⊎_}
 use mathlib.Core.Bool.{true, false}
@@ -10,11 +10,9 @@ use lib.IntN.{ℤ, pos, negsuc}
 use lib.ListN.{length, getD}
 use Rattle.slices.specs.Tests.{allBytes}
 use Rattle.slices.specs.Listed.{Exactly}
-use Rattle.record.specs.Limits.{capacityLeast, capacityMost, payloadMost, wordMost, facilityMost, levelMost}
+use Rattle.record.specs.Limits.{capacityLeast, capacityMost}
 use Rattle.record.specs.Dictionary.{isDictionary}
 use Rattle.record.specs.Forms.{kmsgLine}
-use Rattle.console.specs.Console.{levelLeast as consoleLeast, levelMost as consoleMost}
-use Rattle.log.specs.Answer.{refusalNumber}
 use Rattle.log.specs.View.{View, nextOf, recordAt}
 use Rattle.log.specs.Check.{checked, viewOf}
 use Rattle.log.specs.declared.Verdict.the-variants.{Fine}
@@ -55,16 +53,16 @@ pub data Applies (fails : Type 0) (v : View) (readers : List ℕ) : Call → Ref
   -- len below 0 (2, 3, 4);
   len-below-0 : {a : Asked} {lent : List ℕ} {n : ℕ} → Copying (a .command) → a .len ≡ negsuc n → Applies fails v readers (command a lent) EINVAL
   -- level outside 1..8 (8);
-  level-outside : {a : Asked} {lent : List ℕ} → a .command ≡ pos 8 → ((n : ℕ) → consoleLeast ≤ n → n ≤ consoleMost → a .len ≡ pos n → ⊥)
+  level-outside : {a : Asked} {lent : List ℕ} → a .command ≡ pos 8 → ((n : ℕ) → 1 ≤ n → n ≤ 8 → a .len ≡ pos n → ⊥)
       → Applies fails v readers (command a lent) EINVAL
   -- over 960 bytes;
-  over-960 : {time : ℕ} {bytes : List ℕ} → payloadMost < length bytes → Applies fails v readers (outside time bytes) EINVAL
-  over-960-together : {facility level time : ℕ} {text dictionary : List ℕ} → payloadMost < length text + length dictionary
+  over-960 : {time : ℕ} {bytes : List ℕ} → 960 < length bytes → Applies fails v readers (outside time bytes) EINVAL
+  over-960-together : {facility level time : ℕ} {text dictionary : List ℕ} → 960 < length text + length dictionary
       → Applies fails v readers (box facility level time text dictionary) EINVAL
   -- bad facility, level or dictionary;
-  bad-facility : {facility level time : ℕ} {text dictionary : List ℕ} → facilityMost < facility
+  bad-facility : {facility level time : ℕ} {text dictionary : List ℕ} → 255 < facility
       → Applies fails v readers (box facility level time text dictionary) EINVAL
-  bad-level : {facility level time : ℕ} {text dictionary : List ℕ} → levelMost < level
+  bad-level : {facility level time : ℕ} {text dictionary : List ℕ} → 7 < level
       → Applies fails v readers (box facility level time text dictionary) EINVAL
   bad-dictionary : {facility level time : ℕ} {text dictionary : List ℕ} → (isDictionary dictionary ≡ true → ⊥)
       → Applies fails v readers (box facility level time text dictionary) EINVAL
@@ -75,8 +73,8 @@ pub data Applies (fails : Type 0) (v : View) (readers : List ℕ) : Call → Ref
   above-lent : {a : Asked} {lent : List ℕ} {n : ℕ} → Copying (a .command) → a .len ≡ pos n → length lent < n
       → Applies fails v readers (command a lent) EFAULT
   -- -75 EOVERFLOW: write when next is 2^64 - 1
-  outside-at-last : {time : ℕ} {bytes : List ℕ} → nextOf v ≡ wordMost → Applies fails v readers (outside time bytes) EOVERFLOW
-  box-at-last : {facility level time : ℕ} {text dictionary : List ℕ} → nextOf v ≡ wordMost
+  outside-at-last : {time : ℕ} {bytes : List ℕ} → nextOf v ≡ 2 ^ 64 - 1 → Applies fails v readers (outside time bytes) EOVERFLOW
+  box-at-last : {facility level time : ℕ} {text dictionary : List ℕ} → nextOf v ≡ 2 ^ 64 - 1
       → Applies fails v readers (box facility level time text dictionary) EOVERFLOW
   -- -32 EPIPE: reader's number below first
   below-first : {i : ℕ} {lent : List ℕ} → getD readers i 0 < v .first → Applies fails v readers (read i lent) EPIPE
@@ -86,7 +84,18 @@ pub data Applies (fails : Type 0) (v : View) (readers : List ℕ) : Call → Ref
   nothing-unread : {a : Asked} {lent : List ℕ} {n : ℕ} → a .command ≡ pos 2 → a .len ≡ pos n → 0 < n
       → (v .marks .position ≡ nextOf v) ⊎ (length (v .records) ≡ 0) → Applies fails v readers (command a lent) EAGAIN
 
--- ---- their order
+-- ---- their numbers and their order
+
+-- negsuc n is -(n + 1)
+abbrev pub tableNumber : Refusal → ℤ
+tableNumber EBADFD = negsuc 76
+tableNumber EPERM = negsuc 0
+tableNumber ESPIPE = negsuc 28
+tableNumber EINVAL = negsuc 21
+tableNumber EFAULT = negsuc 13
+tableNumber EOVERFLOW = negsuc 74
+tableNumber EPIPE = negsuc 31
+tableNumber EAGAIN = negsuc 10
 
 abbrev pub table : List Refusal
 table = EBADFD ∷ EPERM ∷ ESPIPE ∷ EINVAL ∷ EFAULT ∷ EOVERFLOW ∷ EPIPE ∷ EAGAIN ∷ []
@@ -129,7 +138,7 @@ IsCount (negsuc n) = ⊥
 pub record Listed (fails : Type 0) (v : View) (readers : List ℕ) (c : Call) (reply : Reply) : Type 0 where
   pub answer : ℤ
   pub answers : Answers reply answer
-  pub exactly : Exactly (order c) refusalNumber (Applies fails v readers c) (IsCount answer) answer
+  pub exactly : Exactly (order c) tableNumber (Applies fails v readers c) (IsCount answer) answer
 
 -- for every log over bytes, whatever its numbers, all readers and every call, of a log that answers so
 abbrev pub AsListed : (State → Call → Reply) → Type 0

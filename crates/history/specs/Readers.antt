@@ -12,6 +12,7 @@ use Rattle.record.specs.Forms.{kmsgLine}
 use Rattle.log.specs.Answer.{refusalNumber}
 use Rattle.log.specs.View.{Marks, noRecord}
 use Rattle.log.specs.declared.Refusal.the-variants.{EPIPE}
+use Rattle.writes.specs.FineLog.{droppedMost}
 use Rattle.kmsg.specs.Read.{readerAt, AfterRead, readRuling, readBy, reading}
 use Rattle.syslog.specs.Command.{unread, marksAfter}
 use Rattle.history.specs.Calls.{Call, outside, box, make, place, read, seek, command, check, console, Reply, wrote, made, set, gave, sought, told, verdict, shown, nobody, run, stateAfter}
@@ -122,9 +123,6 @@ Unmoved = (p : Past) (i : ℕ) → i < length (p .readers) → (c : Call) → On
     → getD (pastStep p c .past .readers) i 0 ≡ getD (p .readers) i 0
 
 -- ---- a write drops at most 41 records
-
-abbrev pub droppedMost : ℕ
-droppedMost = 41
 
 abbrev pub FewDropped : Reply → Type 0
 FewDropped (wrote a dropped) = dropped ≤ droppedMost
