@@ -20,7 +20,7 @@ use Rattle.history.specs.Past.{Past, firstHeld, held, pastStep, pastAfter, fres
 use Rattle.history.specs.Demand2.{fresh, Timed, AllTimed}
 use Rattle.history.proofs.SoundLaws.{Sound, sound-step, sound-after, sound-fresh}
 use Rattle.history.proofs.Demand2.{Agrees, first-is, next-is, level-is, agree-step, agree-after, agree-fresh}
-use Rattle.moments.specs.Case.{seenOf, Outcome, outcomeOf, callOf, Calls, outcome, GivesFrom, Numbers, numbersOf, Left, leftBy, Leaves, leftOf, LeavesFrom}
+use Rattle.moments.specs.Case.{Outcome, outcomeOf, callOf, Calls, outcome, GivesFrom, Numbers, numbersOf, Left, leftBy, Leaves, leftOf, LeavesFrom}
 use Rattle.moments.proofs.LyingLaws.{Lying, lyingIn, lyingAfter, lies-after}
 
 -- ---- times of 64 bits, by a test
@@ -61,7 +61,7 @@ pastOutcome p [] =
       after = record { used = total (held p .records); first = firstHeld p; next = length (p .all); level = p .marks .level };
     }
 pastOutcome p (c ∷ cs) =
-    let x = pastStep p c in let o = pastOutcome (x .past) cs in record { seen = seenOf (x .reply) ∷ o .seen; after = o .after }
+    let x = pastStep p c in let o = pastOutcome (x .past) cs in record { seen = x .reply ∷ o .seen; after = o .after }
 
 agree-outcome : (cs : List Call) (s : State) (p : Past) → Agrees s p → Sound p → AllTimed cs → outcomeOf s cs ≡ pastOutcome p cs
 unfolding pastOutcome

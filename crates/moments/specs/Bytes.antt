@@ -5,8 +5,8 @@ use mathlib.Core.List.{List, [], _∷_, _++_}
 use lib.IntN.{pos}
 use lib.ListN.{drop, replicate}
 use Rattle.slices.specs.Quoted.{quoted}
-use Rattle.history.specs.Calls.{outside, box, make, read, seek}
-use Rattle.moments.specs.Case.{Wrote, At, Read, Sought, Told, Step, _gives_, Leaves, Case, leaves, minus, blank, asked}
+use Rattle.history.specs.Calls.{outside, box, make, read, seek, wrote, made, gave, sought, told}
+use Rattle.moments.specs.Case.{Step, _gives_, Leaves, Case, leaves, minus, blank, asked}
 
 -- 0x0102030405060708 and 0x1112131415161718 ns: no two bytes alike
 abbrev time₁ : ℕ
@@ -26,7 +26,7 @@ goal held =
 abbrev pub in-front : Leaves
 in-front =
     record {
-      steps = outside time₁ (quoted "<134>GOAL home 1") gives Wrote (pos 16) 0 ∷ [];
+      steps = outside time₁ (quoted "<134>GOAL home 1") gives wrote (pos 16) 0 ∷ [];
       numbers = record { start = 0; used = 35; first = 0; next = 1; clear = 0; position = 0; offset = 0; level = 7 };
       buffer = goal;
     }
@@ -35,7 +35,7 @@ in-front =
 abbrev pub with-dictionary : Leaves
 with-dictionary =
     record {
-      steps = box 255 7 time₂ (quoted "bridge up") (quoted "k=1\0l=") gives Wrote (pos 15) 0 ∷ [];
+      steps = box 255 7 time₂ (quoted "bridge up") (quoted "k=1\0l=") gives wrote (pos 15) 0 ∷ [];
       numbers = record { start = 0; used = 39; first = 0; next = 1; clear = 0; position = 0; offset = 0; level = 7 };
       buffer = λ held.
           (24 ∷ 23 ∷ 22 ∷ 21 ∷ 20 ∷ 19 ∷ 18 ∷ 17 ∷ [])
@@ -46,14 +46,14 @@ with-dictionary =
 abbrev pub only-marks : Leaves
 only-marks =
     record {
-      steps = outside time₁ (quoted "<134>GOAL home 1") gives Wrote (pos 16) 0
-          ∷ make gives At 0
-          ∷ asked 2 5 (blank 5) gives Told (pos 5) (quoted "<134>")
-          ∷ asked 5 0 [] gives Told (pos 0) []
-          ∷ asked 8 3 [] gives Told (pos 0) []
-          ∷ outside time₂ (replicate 961 97) gives Wrote (minus 22) 0
-          ∷ seek 0 (pos 0) (pos 2) gives Sought (pos 0) 1
-          ∷ read 0 [] gives Read (minus 11) 0 1 []
+      steps = outside time₁ (quoted "<134>GOAL home 1") gives wrote (pos 16) 0
+          ∷ make gives made 0
+          ∷ asked 2 5 (blank 5) gives told (pos 5) (quoted "<134>")
+          ∷ asked 5 0 [] gives told (pos 0) []
+          ∷ asked 8 3 [] gives told (pos 0) []
+          ∷ outside time₂ (replicate 961 97) gives wrote (minus 22) 0
+          ∷ seek 0 (pos 0) (pos 2) gives sought (pos 0) 1
+          ∷ read 0 [] gives gave (minus 11) 0 1 []
           ∷ [];
       numbers = record { start = 0; used = 35; first = 0; next = 1; clear = 1; position = 0; offset = 5; level = 3 };
       buffer = goal;
@@ -64,8 +64,8 @@ only-marks =
 -- 984 bytes at time₁, up to place 984: text of 960 = 192 + 3 x 256; then 24 + 20 = 44 bytes at time₂, of which 40 lie before the end
 abbrev over-the-end : List Step
 over-the-end =
-    outside time₁ (replicate 960 97) gives Wrote (pos 960) 0
-    ∷ outside time₂ (quoted "<134>GOAL home 1, away 0!") gives Wrote (pos 25) 1
+    outside time₁ (replicate 960 97) gives wrote (pos 960) 0
+    ∷ outside time₂ (quoted "<134>GOAL home 1, away 0!") gives wrote (pos 25) 1
     ∷ []
 
 -- start is 984; the last 4 bytes lie at 0 to 3, and 4 to 983 stay what the dropped record left there
@@ -88,7 +88,7 @@ text-over =
 abbrev pub start-over : Leaves
 start-over =
     record {
-      steps = over-the-end ++ (outside 0 (replicate 960 98) gives Wrote (pos 960) 1 ∷ []);
+      steps = over-the-end ++ (outside 0 (replicate 960 98) gives wrote (pos 960) 1 ∷ []);
       numbers = record { start = 4; used = 984; first = 2; next = 3; clear = 0; position = 0; offset = 0; level = 7 };
       buffer = λ held.
           quoted "y 0!"
@@ -104,9 +104,9 @@ start-over =
 abbrev pub heading-over : Leaves
 heading-over =
     record {
-      steps = outside time₂ (replicate 960 97) gives Wrote (pos 960) 0
-          ∷ outside 256 (quoted "Kick-off 0-0.") gives Wrote (pos 13) 0
-          ∷ outside time₁ (quoted "<134>x") gives Wrote (pos 6) 1
+      steps = outside time₂ (replicate 960 97) gives wrote (pos 960) 0
+          ∷ outside 256 (quoted "Kick-off 0-0.") gives wrote (pos 13) 0
+          ∷ outside time₁ (quoted "<134>x") gives wrote (pos 6) 1
           ∷ [];
       numbers = record { start = 984; used = 62; first = 1; next = 3; clear = 0; position = 0; offset = 0; level = 7 };
       buffer = λ held.
@@ -124,8 +124,8 @@ heading-over =
 abbrev pub dictionary-over : Leaves
 dictionary-over =
     record {
-      steps = outside time₁ (replicate 960 97) gives Wrote (pos 960) 0
-          ∷ box 3 6 time₂ (quoted "bridge 12 up") (quoted "k=1\0l=") gives Wrote (pos 18) 1
+      steps = outside time₁ (replicate 960 97) gives wrote (pos 960) 0
+          ∷ box 3 6 time₂ (quoted "bridge 12 up") (quoted "k=1\0l=") gives wrote (pos 18) 1
           ∷ [];
       numbers = record { start = 984; used = 42; first = 1; next = 2; clear = 0; position = 0; offset = 0; level = 7 };
       buffer = λ held.
@@ -141,8 +141,8 @@ dictionary-over =
 -- 984 + 40 = 1,024: nothing is dropped, and the log is full up to its end
 abbrev to-the-end : List Step
 to-the-end =
-    outside time₁ (replicate 960 97) gives Wrote (pos 960) 0
-    ∷ outside time₂ (quoted "GOAL home 1-0 no") gives Wrote (pos 16) 0
+    outside time₁ (replicate 960 97) gives wrote (pos 960) 0
+    ∷ outside time₂ (quoted "GOAL home 1-0 no") gives wrote (pos 16) 0
     ∷ []
 
 abbrev pub just-full : Leaves
@@ -163,7 +163,7 @@ just-full =
 abbrev pub full-goes-on : Leaves
 full-goes-on =
     record {
-      steps = to-the-end ++ (outside 0 [] gives Wrote (pos 0) 1 ∷ []);
+      steps = to-the-end ++ (outside 0 [] gives wrote (pos 0) 1 ∷ []);
       numbers = record { start = 984; used = 64; first = 1; next = 3; clear = 0; position = 0; offset = 0; level = 7 };
       buffer = λ held.
           blank 8
@@ -180,10 +180,10 @@ full-goes-on =
 abbrev pub position-stays : Leaves
 position-stays =
     record {
-      steps = outside 0 (replicate 960 97) gives Wrote (pos 960) 0
-          ∷ asked 2 5 (blank 5) gives Told (pos 5) (quoted "<12>a")
-          ∷ outside 0 (quoted "GOAL home 1-0 now") gives Wrote (pos 17) 1
-          ∷ asked 2 0 [] gives Told (pos 0) []
+      steps = outside 0 (replicate 960 97) gives wrote (pos 960) 0
+          ∷ asked 2 5 (blank 5) gives told (pos 5) (quoted "<12>a")
+          ∷ outside 0 (quoted "GOAL home 1-0 now") gives wrote (pos 17) 1
+          ∷ asked 2 0 [] gives told (pos 0) []
           ∷ [];
       numbers = record { start = 984; used = 41; first = 1; next = 2; clear = 0; position = 0; offset = 5; level = 7 };
       buffer = λ held.

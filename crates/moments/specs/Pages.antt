@@ -5,9 +5,8 @@ use mathlib.Core.List.{List, [], _∷_, _++_}
 use lib.IntN.{pos}
 use lib.ListN.{replicate}
 use Rattle.slices.specs.Quoted.{quoted}
-use Rattle.board.specs.declared.Answer.the-variants.{Accepted as accepted}
-use Rattle.history.specs.Calls.{outside, box, make, read, seek, console}
-use Rattle.moments.specs.Case.{Wrote, At, Read, Sought, Told, Shown, _gives_, new, Calls, callsOf, Reads, shows, empty, Delivery, Case, calls, reads, delivers, minus, blank, asked}
+use Rattle.history.specs.Calls.{outside, box, make, read, seek, console, wrote, made, gave, sought, told, shown}
+use Rattle.moments.specs.Case.{_gives_, new, Calls, callsOf, Reads, shows, empty, Delivery, Case, calls, reads, delivers, minus, blank, asked}
 use Rattle.moments.specs.Table.{t11}
 
 -- prefixes at their limits: facility 0 becomes 1; one to four digits, and '>'
@@ -16,21 +15,21 @@ prefixes =
     record {
       before = new;
       earlier = [];
-      steps = make gives At 0
-          ∷ outside 0 (quoted "<7>x") gives Wrote (pos 4) 0
-          ∷ outside 0 (quoted "<8>x") gives Wrote (pos 4) 0
-          ∷ outside 0 (quoted "<0000>\n") gives Wrote (pos 7) 0
-          ∷ outside 0 (quoted "<00000>") gives Wrote (pos 7) 0
-          ∷ outside 0 (quoted "<>") gives Wrote (pos 2) 0
-          ∷ outside 0 (quoted "<1") gives Wrote (pos 2) 0
-          ∷ outside 0 (quoted "x<1>\n\n") gives Wrote (pos 6) 0
-          ∷ read 0 (blank 20) gives Read (pos 11) 0 1 (quoted "15,0,0,-;x\n" ++ blank 9)
-          ∷ read 0 (blank 20) gives Read (pos 10) 0 2 (quoted "8,1,0,-;x\n" ++ blank 10)
-          ∷ read 0 (blank 20) gives Read (pos 9) 0 3 (quoted "8,2,0,-;\n" ++ blank 11)
-          ∷ read 0 (blank 20) gives Read (pos 17) 0 4 (quoted "12,3,0,-;<00000>\n" ++ blank 3)
-          ∷ read 0 (blank 20) gives Read (pos 12) 0 5 (quoted "12,4,0,-;<>\n" ++ blank 8)
-          ∷ read 0 (blank 20) gives Read (pos 12) 0 6 (quoted "12,5,0,-;<1\n" ++ blank 8)
-          ∷ read 0 (blank 20) gives Read (pos 18) 0 7 (quoted "12,6,0,-;x<1>\\x0a\n" ++ blank 2)
+      steps = make gives made 0
+          ∷ outside 0 (quoted "<7>x") gives wrote (pos 4) 0
+          ∷ outside 0 (quoted "<8>x") gives wrote (pos 4) 0
+          ∷ outside 0 (quoted "<0000>\n") gives wrote (pos 7) 0
+          ∷ outside 0 (quoted "<00000>") gives wrote (pos 7) 0
+          ∷ outside 0 (quoted "<>") gives wrote (pos 2) 0
+          ∷ outside 0 (quoted "<1") gives wrote (pos 2) 0
+          ∷ outside 0 (quoted "x<1>\n\n") gives wrote (pos 6) 0
+          ∷ read 0 (blank 20) gives gave (pos 11) 0 1 (quoted "15,0,0,-;x\n" ++ blank 9)
+          ∷ read 0 (blank 20) gives gave (pos 10) 0 2 (quoted "8,1,0,-;x\n" ++ blank 10)
+          ∷ read 0 (blank 20) gives gave (pos 9) 0 3 (quoted "8,2,0,-;\n" ++ blank 11)
+          ∷ read 0 (blank 20) gives gave (pos 17) 0 4 (quoted "12,3,0,-;<00000>\n" ++ blank 3)
+          ∷ read 0 (blank 20) gives gave (pos 12) 0 5 (quoted "12,4,0,-;<>\n" ++ blank 8)
+          ∷ read 0 (blank 20) gives gave (pos 12) 0 6 (quoted "12,5,0,-;<1\n" ++ blank 8)
+          ∷ read 0 (blank 20) gives gave (pos 18) 0 7 (quoted "12,6,0,-;x<1>\\x0a\n" ++ blank 2)
           ∷ [];
       after = record { used = 186; first = 0; next = 7; level = 7 };
     }
@@ -41,10 +40,10 @@ from-box =
     record {
       before = new;
       earlier = [];
-      steps = make gives At 0
-          ∷ box 0 7 424069000 (quoted "pci_root PNP0A03:00: host bridge window [io  0x0000-0x0cf7] (ignored)") (quoted "SUBSYSTEM=acpi\0DEVICE=+acpi:PNP0A03:00") gives Wrote (pos 107) 0
-          ∷ read 0 (blank 124) gives Read (pos 124) 0 1 (quoted "7,0,424069,-;pci_root PNP0A03:00: host bridge window [io  0x0000-0x0cf7] (ignored)\n SUBSYSTEM=acpi\n DEVICE=+acpi:PNP0A03:00\n")
-          ∷ asked 9 0 [] gives Told (pos 73) []
+      steps = make gives made 0
+          ∷ box 0 7 424069000 (quoted "pci_root PNP0A03:00: host bridge window [io  0x0000-0x0cf7] (ignored)") (quoted "SUBSYSTEM=acpi\0DEVICE=+acpi:PNP0A03:00") gives wrote (pos 107) 0
+          ∷ read 0 (blank 124) gives gave (pos 124) 0 1 (quoted "7,0,424069,-;pci_root PNP0A03:00: host bridge window [io  0x0000-0x0cf7] (ignored)\n SUBSYSTEM=acpi\n DEVICE=+acpi:PNP0A03:00\n")
+          ∷ asked 9 0 [] gives told (pos 73) []
           ∷ [];
       after = record { used = 131; first = 0; next = 1; level = 7 };
     }
@@ -55,18 +54,18 @@ seeks =
     record {
       before = new;
       earlier = [];
-      steps = make gives At 0
-          ∷ outside 0 (quoted "a") gives Wrote (pos 1) 0
-          ∷ outside 0 (quoted "b") gives Wrote (pos 1) 0
-          ∷ seek 0 (pos 0) (pos 2) gives Sought (pos 0) 2
-          ∷ seek 0 (pos 0) (pos 3) gives Sought (pos 0) 0
-          ∷ asked 4 0 [] gives Told (pos 0) []
-          ∷ seek 0 (pos 0) (pos 3) gives Sought (pos 0) 2
-          ∷ outside 0 (quoted "c") gives Wrote (pos 1) 0
-          ∷ asked 3 9 (blank 9) gives Told (pos 6) (quoted "<12>c\n" ++ blank 3)
-          ∷ seek 0 (pos 0) (pos 0) gives Sought (pos 0) 0
-          ∷ asked 4 3 (blank 4) gives Told (pos 3) (quoted ">c\n" ++ blank 1)
-          ∷ asked 3 9 (blank 9) gives Told (pos 0) (blank 9)
+      steps = make gives made 0
+          ∷ outside 0 (quoted "a") gives wrote (pos 1) 0
+          ∷ outside 0 (quoted "b") gives wrote (pos 1) 0
+          ∷ seek 0 (pos 0) (pos 2) gives sought (pos 0) 2
+          ∷ seek 0 (pos 0) (pos 3) gives sought (pos 0) 0
+          ∷ asked 4 0 [] gives told (pos 0) []
+          ∷ seek 0 (pos 0) (pos 3) gives sought (pos 0) 2
+          ∷ outside 0 (quoted "c") gives wrote (pos 1) 0
+          ∷ asked 3 9 (blank 9) gives told (pos 6) (quoted "<12>c\n" ++ blank 3)
+          ∷ seek 0 (pos 0) (pos 0) gives sought (pos 0) 0
+          ∷ asked 4 3 (blank 4) gives told (pos 3) (quoted ">c\n" ++ blank 1)
+          ∷ asked 3 9 (blank 9) gives told (pos 0) (blank 9)
           ∷ [];
       after = record { used = 75; first = 0; next = 3; level = 7 };
     }
@@ -77,16 +76,16 @@ goes-on =
     record {
       before = new;
       earlier = [];
-      steps = outside 0 (replicate 960 97) gives Wrote (pos 960) 0
-          ∷ asked 2 5 (blank 5) gives Told (pos 5) (quoted "<12>a")
-          ∷ asked 9 0 [] gives Told (pos 960) []
-          ∷ outside 0 (replicate 960 98) gives Wrote (pos 960) 1
-          ∷ asked 9 0 [] gives Told (pos 965) []
-          ∷ asked 2 5 (blank 5) gives Told (pos 5) (quoted "<12>b")
-          ∷ outside 0 (quoted "c") gives Wrote (pos 1) 0
-          ∷ asked 2 960 (blank 960) gives Told (pos 960) (replicate 959 98 ++ (10 ∷ []))
-          ∷ asked 2 9 (blank 9) gives Told (pos 6) (quoted "<12>c\n" ++ blank 3)
-          ∷ asked 9 0 [] gives Told (pos 0) []
+      steps = outside 0 (replicate 960 97) gives wrote (pos 960) 0
+          ∷ asked 2 5 (blank 5) gives told (pos 5) (quoted "<12>a")
+          ∷ asked 9 0 [] gives told (pos 960) []
+          ∷ outside 0 (replicate 960 98) gives wrote (pos 960) 1
+          ∷ asked 9 0 [] gives told (pos 965) []
+          ∷ asked 2 5 (blank 5) gives told (pos 5) (quoted "<12>b")
+          ∷ outside 0 (quoted "c") gives wrote (pos 1) 0
+          ∷ asked 2 960 (blank 960) gives told (pos 960) (replicate 959 98 ++ (10 ∷ []))
+          ∷ asked 2 9 (blank 9) gives told (pos 6) (quoted "<12>c\n" ++ blank 3)
+          ∷ asked 9 0 [] gives told (pos 0) []
           ∷ [];
       after = record { used = 1009; first = 1; next = 3; level = 7 };
     }
@@ -98,23 +97,23 @@ mark-passed =
     record {
       before = new;
       earlier = [];
-      steps = make gives At 0
-          ∷ outside 0 (quoted "a") gives Wrote (pos 1) 0
-          ∷ asked 5 0 [] gives Told (pos 0) []
-          ∷ outside 0 (quoted "b") gives Wrote (pos 1) 0
-          ∷ outside 0 (quoted "c") gives Wrote (pos 1) 0
-          ∷ outside 0 (replicate 960 100) gives Wrote (pos 960) 2
-          ∷ seek 0 (pos 0) (pos 3) gives Sought (pos 0) 1
-          ∷ read 0 (blank 9) gives Read (minus 32) 1 2 (blank 9)
-          ∷ outside 0 (replicate 960 101) gives Wrote (pos 960) 2
-          ∷ outside 0 (quoted "f") gives Wrote (pos 1) 0
-          ∷ asked 3 980 (blank 980) gives Told (pos 971) (quoted "<12>" ++ (replicate 960 101 ++ (quoted "\n<12>f\n" ++ blank 9)))
-          ∷ asked 3 8 (blank 8) gives Told (pos 8) (quoted "e\n<12>f\n")
-          ∷ seek 0 (pos 0) (pos 3) gives Sought (pos 0) 1
-          ∷ read 0 [] gives Read (minus 32) 3 4 []
-          ∷ asked 4 980 (blank 980) gives Told (pos 971) (quoted "<12>" ++ (replicate 960 101 ++ (quoted "\n<12>f\n" ++ blank 9)))
-          ∷ seek 0 (pos 0) (pos 3) gives Sought (pos 0) 6
-          ∷ asked 3 8 (blank 8) gives Told (pos 0) (blank 8)
+      steps = make gives made 0
+          ∷ outside 0 (quoted "a") gives wrote (pos 1) 0
+          ∷ asked 5 0 [] gives told (pos 0) []
+          ∷ outside 0 (quoted "b") gives wrote (pos 1) 0
+          ∷ outside 0 (quoted "c") gives wrote (pos 1) 0
+          ∷ outside 0 (replicate 960 100) gives wrote (pos 960) 2
+          ∷ seek 0 (pos 0) (pos 3) gives sought (pos 0) 1
+          ∷ read 0 (blank 9) gives gave (minus 32) 1 2 (blank 9)
+          ∷ outside 0 (replicate 960 101) gives wrote (pos 960) 2
+          ∷ outside 0 (quoted "f") gives wrote (pos 1) 0
+          ∷ asked 3 980 (blank 980) gives told (pos 971) (quoted "<12>" ++ (replicate 960 101 ++ (quoted "\n<12>f\n" ++ blank 9)))
+          ∷ asked 3 8 (blank 8) gives told (pos 8) (quoted "e\n<12>f\n")
+          ∷ seek 0 (pos 0) (pos 3) gives sought (pos 0) 1
+          ∷ read 0 [] gives gave (minus 32) 3 4 []
+          ∷ asked 4 980 (blank 980) gives told (pos 971) (quoted "<12>" ++ (replicate 960 101 ++ (quoted "\n<12>f\n" ++ blank 9)))
+          ∷ seek 0 (pos 0) (pos 3) gives sought (pos 0) 6
+          ∷ asked 3 8 (blank 8) gives told (pos 0) (blank 8)
           ∷ [];
       after = record { used = 1009; first = 4; next = 6; level = 7 };
     }
@@ -125,18 +124,18 @@ mark-passed-by-4 =
     record {
       before = new;
       earlier = [];
-      steps = make gives At 0
-          ∷ outside 0 (quoted "a") gives Wrote (pos 1) 0
-          ∷ outside 0 (quoted "b") gives Wrote (pos 1) 0
-          ∷ asked 4 0 [] gives Told (pos 0) []
-          ∷ outside 0 (replicate 960 99) gives Wrote (pos 960) 1
-          ∷ outside 0 (replicate 960 100) gives Wrote (pos 960) 2
-          ∷ seek 0 (pos 0) (pos 3) gives Sought (pos 0) 2
-          ∷ asked 3 5 (blank 6) gives Told (pos 5) (quoted "dddd\n" ++ blank 1)
-          ∷ asked 4 965 (blank 965) gives Told (pos 965) (quoted "<12>" ++ (replicate 960 100 ++ quoted "\n"))
-          ∷ asked 3 5 (blank 6) gives Told (pos 0) (blank 6)
-          ∷ read 0 [] gives Read (minus 32) 1 3 []
-          ∷ seek 0 (pos 0) (pos 3) gives Sought (pos 0) 4
+      steps = make gives made 0
+          ∷ outside 0 (quoted "a") gives wrote (pos 1) 0
+          ∷ outside 0 (quoted "b") gives wrote (pos 1) 0
+          ∷ asked 4 0 [] gives told (pos 0) []
+          ∷ outside 0 (replicate 960 99) gives wrote (pos 960) 1
+          ∷ outside 0 (replicate 960 100) gives wrote (pos 960) 2
+          ∷ seek 0 (pos 0) (pos 3) gives sought (pos 0) 2
+          ∷ asked 3 5 (blank 6) gives told (pos 5) (quoted "dddd\n" ++ blank 1)
+          ∷ asked 4 965 (blank 965) gives told (pos 965) (quoted "<12>" ++ (replicate 960 100 ++ quoted "\n"))
+          ∷ asked 3 5 (blank 6) gives told (pos 0) (blank 6)
+          ∷ read 0 [] gives gave (minus 32) 1 3 []
+          ∷ seek 0 (pos 0) (pos 3) gives sought (pos 0) 4
           ∷ [];
       after = record { used = 984; first = 3; next = 4; level = 7 };
     }
@@ -147,14 +146,14 @@ none-of-dropped =
     record {
       before = new;
       earlier = [];
-      steps = outside 0 (replicate 960 97) gives Wrote (pos 960) 0
-          ∷ asked 2 5 (blank 5) gives Told (pos 5) (quoted "<12>a")
-          ∷ outside 0 (replicate 960 98) gives Wrote (pos 960) 1
-          ∷ asked 2 0 [] gives Told (pos 0) []
-          ∷ asked 9 0 [] gives Told (pos 965) []
-          ∷ asked 2 0 (blank 3) gives Told (pos 0) (blank 3)
-          ∷ asked 2 5 (blank 5) gives Told (pos 5) (quoted "<12>b")
-          ∷ asked 9 0 [] gives Told (pos 960) []
+      steps = outside 0 (replicate 960 97) gives wrote (pos 960) 0
+          ∷ asked 2 5 (blank 5) gives told (pos 5) (quoted "<12>a")
+          ∷ outside 0 (replicate 960 98) gives wrote (pos 960) 1
+          ∷ asked 2 0 [] gives told (pos 0) []
+          ∷ asked 9 0 [] gives told (pos 965) []
+          ∷ asked 2 0 (blank 3) gives told (pos 0) (blank 3)
+          ∷ asked 2 5 (blank 5) gives told (pos 5) (quoted "<12>b")
+          ∷ asked 9 0 [] gives told (pos 960) []
           ∷ [];
       after = record { used = 984; first = 1; next = 2; level = 7 };
     }
@@ -165,12 +164,12 @@ console-8 =
     record {
       before = new;
       earlier = [];
-      steps = asked 0 0 [] gives Told (pos 0) []
-          ∷ asked 1 0 [] gives Told (pos 0) []
-          ∷ asked 8 4 [] gives Told (pos 0) []
-          ∷ console (pos 3) (pos 4) gives Shown true
-          ∷ console (pos 4) (pos 4) gives Shown false
-          ∷ console (minus 1) (pos 0) gives Shown true
+      steps = asked 0 0 [] gives told (pos 0) []
+          ∷ asked 1 0 [] gives told (pos 0) []
+          ∷ asked 8 4 [] gives told (pos 0) []
+          ∷ console (pos 3) (pos 4) gives shown true
+          ∷ console (pos 4) (pos 4) gives shown false
+          ∷ console (minus 1) (pos 0) gives shown true
           ∷ [];
       after = record { used = 0; first = 0; next = 0; level = 4 };
     }
@@ -181,7 +180,7 @@ console-6 =
     record {
       before = new;
       earlier = callsOf console-8;
-      steps = asked 6 0 [] gives Told (pos 0) [] ∷ [];
+      steps = asked 6 0 [] gives told (pos 0) [] ∷ [];
       after = record { used = 0; first = 0; next = 0; level = 1 };
     }
 
@@ -191,7 +190,7 @@ console-7 =
     record {
       before = new;
       earlier = callsOf console-6;
-      steps = asked 7 0 [] gives Told (pos 0) [] ∷ [];
+      steps = asked 7 0 [] gives told (pos 0) [] ∷ [];
       after = record { used = 0; first = 0; next = 0; level = 7 };
     }
 
@@ -201,7 +200,7 @@ overtaken-end =
     record {
       before = new;
       earlier = callsOf t11;
-      steps = make gives At 1 ∷ seek 1 (pos 0) (pos 2) gives Sought (pos 0) 43 ∷ [];
+      steps = make gives made 1 ∷ seek 1 (pos 0) (pos 2) gives sought (pos 0) 43 ∷ [];
       after = record { used = 1008; first = 1; next = 43; level = 7 };
     }
 
@@ -250,7 +249,7 @@ last-slot =
     record {
       earlier = [];
       message = quoted "191,5,1,-;up\n";
-      answer = accepted;
+      answer = 0;
       channels = replicate 7 empty ++ (shows 5 (quoted "up") ∷ []);
     }
 

@@ -5,9 +5,9 @@ use mathlib.Core.List.{List, [], _∷_, _++_}
 use lib.IntN.{pos}
 use lib.ListN.{replicate}
 use Rattle.slices.specs.Quoted.{quoted}
-use Rattle.history.specs.Calls.{outside, box, place, read, seek}
+use Rattle.history.specs.Calls.{outside, box, place, read, seek, wrote, set, gave, sought, told}
 use Rattle.board.specs.Board.{fresh, state}
-use Rattle.moments.specs.Case.{Wrote, Read, Sought, Told, Nothing, _gives_, new, hand, Calls, dots, board₀, boardAfter, Pair, both, Case, calls, boardAnswers, linePairs, boardPairs, minus, blank, asked, unprivileged, poor}
+use Rattle.moments.specs.Case.{_gives_, new, hand, Calls, dots, board₀, boardAfter, Pair, both, Case, calls, boardAnswers, linePairs, boardPairs, minus, blank, asked, unprivileged, poor}
 use Rattle.moments.specs.Refusals.{byHand, last, board₁}
 
 -- ---- the log
@@ -19,18 +19,18 @@ ebadfd-first =
     record {
       before = hand (byHand 0 last last 9);
       earlier = [];
-      steps = outside 0 (replicate 961 97) gives Wrote (minus 77) 0
-          ∷ box 256 0 0 [] [] gives Wrote (minus 77) 0
-          ∷ outside 0 [] gives Wrote (minus 77) 0
-          ∷ seek 0 (pos 1) (pos 0) gives Sought (minus 77) 0
-          ∷ seek 0 (pos 0) (pos 1) gives Sought (minus 77) 0
-          ∷ read 0 [] gives Read (minus 77) 0 0 []
-          ∷ place 0 last gives Nothing
-          ∷ read 0 [] gives Read (minus 77) 0 last []
-          ∷ poor 9 0 true [] gives Told (minus 77) []
-          ∷ asked 11 0 [] gives Told (minus 77) []
-          ∷ asked 2 2 (blank 1) gives Told (minus 77) (blank 1)
-          ∷ asked 2 1 (blank 1) gives Told (minus 77) (blank 1)
+      steps = outside 0 (replicate 961 97) gives wrote (minus 77) 0
+          ∷ box 256 0 0 [] [] gives wrote (minus 77) 0
+          ∷ outside 0 [] gives wrote (minus 77) 0
+          ∷ seek 0 (pos 1) (pos 0) gives sought (minus 77) 0
+          ∷ seek 0 (pos 0) (pos 1) gives sought (minus 77) 0
+          ∷ read 0 [] gives gave (minus 77) 0 0 []
+          ∷ place 0 last gives set
+          ∷ read 0 [] gives gave (minus 77) 0 last []
+          ∷ poor 9 0 true [] gives told (minus 77) []
+          ∷ asked 11 0 [] gives told (minus 77) []
+          ∷ asked 2 2 (blank 1) gives told (minus 77) (blank 1)
+          ∷ asked 2 1 (blank 1) gives told (minus 77) (blank 1)
           ∷ [];
       after = record { used = 0; first = last; next = last; level = 9 };
     }
@@ -41,22 +41,22 @@ eperm-before-einval =
     record {
       before = new;
       earlier = [];
-      steps = poor 11 0 true [] gives Told (minus 1) []
-          ∷ poor 11 0 false [] gives Told (minus 1) []
-          ∷ unprivileged (minus 1) (pos 0) true [] gives Told (minus 1) []
-          ∷ unprivileged (minus 1) (pos 0) false [] gives Told (minus 1) []
-          ∷ unprivileged (pos 2) (minus 1) true (blank 1) gives Told (minus 1) (blank 1)
-          ∷ unprivileged (pos 2) (minus 1) false (blank 1) gives Told (minus 1) (blank 1)
-          ∷ unprivileged (pos 3) (minus 1) true (blank 1) gives Told (minus 1) (blank 1)
-          ∷ unprivileged (pos 4) (minus 1) true (blank 1) gives Told (minus 1) (blank 1)
-          ∷ unprivileged (pos 4) (minus 1) false (blank 1) gives Told (minus 1) (blank 1)
-          ∷ unprivileged (pos 8) (minus 1) true [] gives Told (minus 1) []
-          ∷ poor 8 0 false [] gives Told (minus 1) []
-          ∷ poor 8 9 true [] gives Told (minus 1) []
-          ∷ poor 8 9 false [] gives Told (minus 1) []
+      steps = poor 11 0 true [] gives told (minus 1) []
+          ∷ poor 11 0 false [] gives told (minus 1) []
+          ∷ unprivileged (minus 1) (pos 0) true [] gives told (minus 1) []
+          ∷ unprivileged (minus 1) (pos 0) false [] gives told (minus 1) []
+          ∷ unprivileged (pos 2) (minus 1) true (blank 1) gives told (minus 1) (blank 1)
+          ∷ unprivileged (pos 2) (minus 1) false (blank 1) gives told (minus 1) (blank 1)
+          ∷ unprivileged (pos 3) (minus 1) true (blank 1) gives told (minus 1) (blank 1)
+          ∷ unprivileged (pos 4) (minus 1) true (blank 1) gives told (minus 1) (blank 1)
+          ∷ unprivileged (pos 4) (minus 1) false (blank 1) gives told (minus 1) (blank 1)
+          ∷ unprivileged (pos 8) (minus 1) true [] gives told (minus 1) []
+          ∷ poor 8 0 false [] gives told (minus 1) []
+          ∷ poor 8 9 true [] gives told (minus 1) []
+          ∷ poor 8 9 false [] gives told (minus 1) []
           -- type 3 with restriction off is permitted, and refused for its len; 10 has no use for a len
-          ∷ unprivileged (pos 3) (minus 1) false (blank 1) gives Told (minus 22) (blank 1)
-          ∷ unprivileged (pos 10) (minus 1) false [] gives Told (pos 1024) []
+          ∷ unprivileged (pos 3) (minus 1) false (blank 1) gives told (minus 22) (blank 1)
+          ∷ unprivileged (pos 10) (minus 1) false [] gives told (pos 1024) []
           ∷ [];
       after = record { used = 0; first = 0; next = 0; level = 7 };
     }
@@ -68,19 +68,19 @@ efault-between =
     record {
       before = new;
       earlier = [];
-      steps = outside 0 (quoted "x") gives Wrote (pos 1) 0
-          ∷ poor 2 2 true (blank 1) gives Told (minus 1) (blank 1)
-          ∷ poor 2 2 false (blank 1) gives Told (minus 1) (blank 1)
-          ∷ poor 3 2 true (blank 1) gives Told (minus 1) (blank 1)
-          ∷ poor 4 2 true (blank 1) gives Told (minus 1) (blank 1)
-          ∷ poor 4 2 false (blank 1) gives Told (minus 1) (blank 1)
-          ∷ poor 3 2 false (blank 1) gives Told (minus 14) (blank 1)
-          ∷ poor 3 6 false (blank 6) gives Told (pos 6) (quoted "<12>x\n")
-          ∷ asked 2 6 (blank 6) gives Told (pos 6) (quoted "<12>x\n")
-          ∷ poor 2 1 true (blank 1) gives Told (minus 1) (blank 1)
-          ∷ poor 2 1 false (blank 1) gives Told (minus 1) (blank 1)
-          ∷ asked 2 2 (blank 1) gives Told (minus 14) (blank 1)
-          ∷ asked 2 1 (blank 1) gives Told (minus 11) (blank 1)
+      steps = outside 0 (quoted "x") gives wrote (pos 1) 0
+          ∷ poor 2 2 true (blank 1) gives told (minus 1) (blank 1)
+          ∷ poor 2 2 false (blank 1) gives told (minus 1) (blank 1)
+          ∷ poor 3 2 true (blank 1) gives told (minus 1) (blank 1)
+          ∷ poor 4 2 true (blank 1) gives told (minus 1) (blank 1)
+          ∷ poor 4 2 false (blank 1) gives told (minus 1) (blank 1)
+          ∷ poor 3 2 false (blank 1) gives told (minus 14) (blank 1)
+          ∷ poor 3 6 false (blank 6) gives told (pos 6) (quoted "<12>x\n")
+          ∷ asked 2 6 (blank 6) gives told (pos 6) (quoted "<12>x\n")
+          ∷ poor 2 1 true (blank 1) gives told (minus 1) (blank 1)
+          ∷ poor 2 1 false (blank 1) gives told (minus 1) (blank 1)
+          ∷ asked 2 2 (blank 1) gives told (minus 14) (blank 1)
+          ∷ asked 2 1 (blank 1) gives told (minus 11) (blank 1)
           ∷ [];
       after = record { used = 25; first = 0; next = 1; level = 7 };
     }
@@ -92,18 +92,18 @@ eperm-alone =
     record {
       before = new;
       earlier = [];
-      steps = outside 0 (quoted "x") gives Wrote (pos 1) 0
-          ∷ poor 0 0 false [] gives Told (minus 1) []
-          ∷ poor 1 0 false [] gives Told (minus 1) []
-          ∷ poor 2 1 false (blank 1) gives Told (minus 1) (blank 1)
-          ∷ poor 4 1 false (blank 1) gives Told (minus 1) (blank 1)
-          ∷ poor 5 0 false [] gives Told (minus 1) []
-          ∷ poor 6 0 false [] gives Told (minus 1) []
-          ∷ poor 7 0 false [] gives Told (minus 1) []
-          ∷ poor 8 1 false [] gives Told (minus 1) []
-          ∷ poor 9 0 false [] gives Told (minus 1) []
-          ∷ asked 9 0 [] gives Told (pos 6) []
-          ∷ asked 3 6 (blank 6) gives Told (pos 6) (quoted "<12>x\n")
+      steps = outside 0 (quoted "x") gives wrote (pos 1) 0
+          ∷ poor 0 0 false [] gives told (minus 1) []
+          ∷ poor 1 0 false [] gives told (minus 1) []
+          ∷ poor 2 1 false (blank 1) gives told (minus 1) (blank 1)
+          ∷ poor 4 1 false (blank 1) gives told (minus 1) (blank 1)
+          ∷ poor 5 0 false [] gives told (minus 1) []
+          ∷ poor 6 0 false [] gives told (minus 1) []
+          ∷ poor 7 0 false [] gives told (minus 1) []
+          ∷ poor 8 1 false [] gives told (minus 1) []
+          ∷ poor 9 0 false [] gives told (minus 1) []
+          ∷ asked 9 0 [] gives told (pos 6) []
+          ∷ asked 3 6 (blank 6) gives told (pos 6) (quoted "<12>x\n")
           ∷ [];
       after = record { used = 25; first = 0; next = 1; level = 7 };
     }

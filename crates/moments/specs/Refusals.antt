@@ -4,13 +4,14 @@ use Prim.Native.Nat.{ℕ}
 use mathlib.Core.Bool.{true, false}
 use mathlib.Core.List.{List, [], _∷_, _++_}
 use lib.IntN.{pos}
-use lib.ListN.{replicate, set}
+use lib.ListN.{replicate}
+use lib.ListN.{set as setAt}
 use Rattle.slices.specs.Quoted.{quoted}
 use Rattle.log.specs.declared.Verdict.the-variants.{Fine, Numbers, Heading}
-use Rattle.history.specs.Calls.{outside, box, make, place, read, seek, command, check, State}
+use Rattle.history.specs.Calls.{outside, box, make, place, read, seek, command, check, State, wrote, made, set, gave, sought, told, verdict, nobody}
 use Rattle.board.specs.Board.{fresh, emptySlot, state}
 use Rattle.board.specs.Board.{State as Board}
-use Rattle.moments.specs.Case.{Wrote, At, Read, Sought, Told, Checked, Nothing, _gives_, new, hand, Calls, dots, shows, slotOf, board₀, boardAfter, Case, calls, lineAnswers, boardAnswers, minus, blank, asked, poor}
+use Rattle.moments.specs.Case.{_gives_, new, hand, Calls, dots, shows, slotOf, board₀, boardAfter, Case, calls, lineAnswers, boardAnswers, minus, blank, asked, poor}
 
 -- ---- when the log says no
 
@@ -42,13 +43,13 @@ heading-fails =
     record {
       before = hand (byHand 24 0 1 7);
       earlier = [];
-      steps = outside 0 [] gives Wrote (minus 77) 0
-          ∷ box 1 0 0 [] [] gives Wrote (minus 77) 0
-          ∷ read 0 (quoted "x") gives Read (minus 77) 0 0 (quoted "x")
-          ∷ seek 0 (pos 1) (pos 3) gives Sought (minus 77) 0
-          ∷ asked 2 1 (quoted "x") gives Told (minus 77) (quoted "x")
-          ∷ poor 2 0 true [] gives Told (minus 77) []
-          ∷ check gives Checked (Heading 0)
+      steps = outside 0 [] gives wrote (minus 77) 0
+          ∷ box 1 0 0 [] [] gives wrote (minus 77) 0
+          ∷ read 0 (quoted "x") gives gave (minus 77) 0 0 (quoted "x")
+          ∷ seek 0 (pos 1) (pos 3) gives sought (minus 77) 0
+          ∷ asked 2 1 (quoted "x") gives told (minus 77) (quoted "x")
+          ∷ poor 2 0 true [] gives told (minus 77) []
+          ∷ check gives verdict (Heading 0)
           ∷ [];
       after = record { used = 24; first = 0; next = 1; level = 7 };
     }
@@ -59,14 +60,14 @@ numbers-misfit =
     record {
       before = hand (byHand 0 5 5 9);
       earlier = [];
-      steps = outside 0 [] gives Wrote (minus 77) 0
-          ∷ box 1 0 0 [] [] gives Wrote (minus 77) 0
-          ∷ read 0 (quoted "x") gives Read (minus 77) 0 0 (quoted "x")
-          ∷ seek 0 (pos 1) (pos 3) gives Sought (minus 77) 0
-          ∷ asked 2 1 (quoted "x") gives Told (minus 77) (quoted "x")
-          ∷ poor 2 0 true [] gives Told (minus 77) []
-          ∷ check gives Checked Numbers
-          ∷ make gives At 5
+      steps = outside 0 [] gives wrote (minus 77) 0
+          ∷ box 1 0 0 [] [] gives wrote (minus 77) 0
+          ∷ read 0 (quoted "x") gives gave (minus 77) 0 0 (quoted "x")
+          ∷ seek 0 (pos 1) (pos 3) gives sought (minus 77) 0
+          ∷ asked 2 1 (quoted "x") gives told (minus 77) (quoted "x")
+          ∷ poor 2 0 true [] gives told (minus 77) []
+          ∷ check gives verdict Numbers
+          ∷ make gives made 5
           ∷ [];
       after = record { used = 0; first = 5; next = 5; level = 9 };
     }
@@ -77,12 +78,12 @@ numbers-over =
     record {
       before = hand (byHand 0 last last 7);
       earlier = [];
-      steps = check gives Checked Fine
-          ∷ outside 0 [] gives Wrote (minus 75) 0
-          ∷ box 1 0 0 [] [] gives Wrote (minus 75) 0
-          ∷ outside 0 (replicate 961 97) gives Wrote (minus 22) 0
-          ∷ box 256 0 0 [] [] gives Wrote (minus 22) 0
-          ∷ read 0 [] gives Read (minus 32) last last []
+      steps = check gives verdict Fine
+          ∷ outside 0 [] gives wrote (minus 75) 0
+          ∷ box 1 0 0 [] [] gives wrote (minus 75) 0
+          ∷ outside 0 (replicate 961 97) gives wrote (minus 22) 0
+          ∷ box 256 0 0 [] [] gives wrote (minus 22) 0
+          ∷ read 0 [] gives gave (minus 32) last last []
           ∷ [];
       after = record { used = 0; first = last; next = last; level = 7 };
     }
@@ -93,7 +94,7 @@ last-number =
     record {
       before = hand (byHand 0 18446744073709551614 18446744073709551614 7);
       earlier = [];
-      steps = outside 0 [] gives Wrote (pos 0) 0 ∷ outside 0 [] gives Wrote (minus 75) 0 ∷ [];
+      steps = outside 0 [] gives wrote (pos 0) 0 ∷ outside 0 [] gives wrote (minus 75) 0 ∷ [];
       after = record { used = 24; first = 18446744073709551614; next = last; level = 7 };
     }
 
@@ -104,17 +105,17 @@ readers-refused =
     record {
       before = new;
       earlier = [];
-      steps = make gives At 0
-          ∷ place 0 1 gives Nothing
-          ∷ read 0 (quoted "x") gives Read (minus 77) 0 1 (quoted "x")
-          ∷ place 0 0 gives Nothing
-          ∷ read 0 (quoted "x") gives Read (minus 11) 0 0 (quoted "x")
-          ∷ read 1 (quoted "x") gives Nothing
-          ∷ outside 0 (quoted "x") gives Wrote (pos 1) 0
-          ∷ read 0 (blank 10) gives Read (minus 22) 0 0 (blank 10)
-          ∷ seek 0 (minus 1) (pos 0) gives Sought (minus 29) 0
-          ∷ seek 0 (pos 0) (pos 1) gives Sought (minus 22) 0
-          ∷ seek 0 (pos 0) (minus 1) gives Sought (minus 22) 0
+      steps = make gives made 0
+          ∷ place 0 1 gives set
+          ∷ read 0 (quoted "x") gives gave (minus 77) 0 1 (quoted "x")
+          ∷ place 0 0 gives set
+          ∷ read 0 (quoted "x") gives gave (minus 11) 0 0 (quoted "x")
+          ∷ read 1 (quoted "x") gives nobody
+          ∷ outside 0 (quoted "x") gives wrote (pos 1) 0
+          ∷ read 0 (blank 10) gives gave (minus 22) 0 0 (blank 10)
+          ∷ seek 0 (minus 1) (pos 0) gives sought (minus 29) 0
+          ∷ seek 0 (pos 0) (pos 1) gives sought (minus 22) 0
+          ∷ seek 0 (pos 0) (minus 1) gives sought (minus 22) 0
           ∷ [];
       after = record { used = 25; first = 0; next = 1; level = 7 };
     }
@@ -125,14 +126,14 @@ writes-refused =
     record {
       before = new;
       earlier = [];
-      steps = box 256 0 0 [] [] gives Wrote (minus 22) 0
-          ∷ box 0 8 0 [] [] gives Wrote (minus 22) 0
-          ∷ box 255 7 0 [] [] gives Wrote (pos 0) 0
-          ∷ box 0 0 0 (replicate 958 97) (quoted "a=b") gives Wrote (minus 22) 0
-          ∷ box 0 0 0 [] (quoted "=") gives Wrote (minus 22) 0
-          ∷ box 0 0 0 [] (quoted "a") gives Wrote (minus 22) 0
-          ∷ box 0 0 0 [] (quoted "a=\0") gives Wrote (minus 22) 0
-          ∷ box 0 0 0 [] (quoted "a=") gives Wrote (pos 2) 0
+      steps = box 256 0 0 [] [] gives wrote (minus 22) 0
+          ∷ box 0 8 0 [] [] gives wrote (minus 22) 0
+          ∷ box 255 7 0 [] [] gives wrote (pos 0) 0
+          ∷ box 0 0 0 (replicate 958 97) (quoted "a=b") gives wrote (minus 22) 0
+          ∷ box 0 0 0 [] (quoted "=") gives wrote (minus 22) 0
+          ∷ box 0 0 0 [] (quoted "a") gives wrote (minus 22) 0
+          ∷ box 0 0 0 [] (quoted "a=\0") gives wrote (minus 22) 0
+          ∷ box 0 0 0 [] (quoted "a=") gives wrote (pos 2) 0
           ∷ [];
       after = record { used = 50; first = 0; next = 2; level = 7 };
     }
@@ -144,20 +145,20 @@ commands-refused =
     record {
       before = new;
       earlier = [];
-      steps = poor 2 0 false [] gives Told (minus 1) []
-          ∷ poor 3 1 true (blank 1) gives Told (minus 1) (blank 1)
-          ∷ poor 3 1 false (blank 1) gives Told (pos 0) (blank 1)
-          ∷ poor 10 0 true [] gives Told (minus 1) []
-          ∷ poor 10 0 false [] gives Told (pos 1024) []
-          ∷ asked 11 0 [] gives Told (minus 22) []
-          ∷ command (record { command = minus 1; len = pos 0; privilege = true; restriction = false }) [] gives Told (minus 22) []
-          ∷ command (record { command = pos 2; len = minus 1; privilege = true; restriction = false }) (blank 1) gives Told (minus 22) (blank 1)
-          ∷ command (record { command = pos 8; len = minus 1; privilege = true; restriction = false }) [] gives Told (minus 22) []
-          ∷ asked 2 2 (blank 1) gives Told (minus 14) (blank 1)
-          ∷ asked 3 2 (blank 1) gives Told (minus 14) (blank 1)
-          ∷ asked 4 2 (blank 1) gives Told (minus 14) (blank 1)
-          ∷ asked 2 1 (blank 1) gives Told (minus 11) (blank 1)
-          ∷ asked 2 0 [] gives Told (pos 0) []
+      steps = poor 2 0 false [] gives told (minus 1) []
+          ∷ poor 3 1 true (blank 1) gives told (minus 1) (blank 1)
+          ∷ poor 3 1 false (blank 1) gives told (pos 0) (blank 1)
+          ∷ poor 10 0 true [] gives told (minus 1) []
+          ∷ poor 10 0 false [] gives told (pos 1024) []
+          ∷ asked 11 0 [] gives told (minus 22) []
+          ∷ command (record { command = minus 1; len = pos 0; privilege = true; restriction = false }) [] gives told (minus 22) []
+          ∷ command (record { command = pos 2; len = minus 1; privilege = true; restriction = false }) (blank 1) gives told (minus 22) (blank 1)
+          ∷ command (record { command = pos 8; len = minus 1; privilege = true; restriction = false }) [] gives told (minus 22) []
+          ∷ asked 2 2 (blank 1) gives told (minus 14) (blank 1)
+          ∷ asked 3 2 (blank 1) gives told (minus 14) (blank 1)
+          ∷ asked 4 2 (blank 1) gives told (minus 14) (blank 1)
+          ∷ asked 2 1 (blank 1) gives told (minus 11) (blank 1)
+          ∷ asked 2 0 [] gives told (pos 0) []
           ∷ [];
       after = record { used = 0; first = 0; next = 0; level = 7 };
     }
@@ -247,7 +248,7 @@ goal = quoted "134,7,1,-;1-0\n" ∷ []
 
 -- a board of which slot 3 has this text length
 abbrev sized : ℕ → Board
-sized size = state (set (replicate 8 emptySlot) 3 (slotOf (shows 1 (dots size)))) (dots 7680)
+sized size = state (setAt (replicate 8 emptySlot) 3 (slotOf (shows 1 (dots size)))) (dots 7680)
 
 -- the board after record 5 of channel 23 was shown
 abbrev pub board₁ : Board

@@ -3,9 +3,8 @@ use mathlib.Core.List.{List, [], _∷_, _++_}
 use lib.IntN.{pos}
 use lib.ListN.{replicate}
 use Rattle.slices.specs.Quoted.{quoted}
-use Rattle.board.specs.declared.Answer.the-variants.{Accepted as accepted, Refused as refused}
-use Rattle.history.specs.Calls.{outside, make, read, seek}
-use Rattle.moments.specs.Case.{Wrote, At, Read, Sought, Told, _gives_, new, Calls, callsOf, Reads, shows, empty, Delivery, messagesOf, Case, calls, reads, delivers, AllAgree, minus, blank, asked}
+use Rattle.history.specs.Calls.{outside, make, read, seek, wrote, made, gave, sought, told}
+use Rattle.moments.specs.Case.{_gives_, new, Calls, callsOf, Reads, shows, empty, Delivery, messagesOf, Case, calls, reads, delivers, AllAgree, minus, blank, asked}
 
 -- T1 fresh, outside "<134>GOAL home 1" at 5,000,999 ns: answer 16, cost 35, line "134,0,5000,-;GOAL home 1" of 25 bytes with newline
 abbrev pub t1 : Calls
@@ -13,9 +12,9 @@ t1 =
     record {
       before = new;
       earlier = [];
-      steps = make gives At 0
-          ∷ outside 5000999 (quoted "<134>GOAL home 1") gives Wrote (pos 16) 0
-          ∷ read 0 (blank 30) gives Read (pos 25) 0 1 (quoted "134,0,5000,-;GOAL home 1\n" ++ blank 5)
+      steps = make gives made 0
+          ∷ outside 5000999 (quoted "<134>GOAL home 1") gives wrote (pos 16) 0
+          ∷ read 0 (blank 30) gives gave (pos 25) 0 1 (quoted "134,0,5000,-;GOAL home 1\n" ++ blank 5)
           ∷ [];
       after = record { used = 35; first = 0; next = 1; level = 7 };
     }
@@ -26,9 +25,9 @@ t2 =
     record {
       before = new;
       earlier = callsOf t1;
-      steps = asked 9 0 [] gives Told (pos 17) []
-          ∷ asked 2 5 (blank 6) gives Told (pos 5) (quoted "<134>" ++ blank 1)
-          ∷ asked 9 0 [] gives Told (pos 12) []
+      steps = asked 9 0 [] gives told (pos 17) []
+          ∷ asked 2 5 (blank 6) gives told (pos 5) (quoted "<134>" ++ blank 1)
+          ∷ asked 9 0 [] gives told (pos 12) []
           ∷ [];
       after = record { used = 35; first = 0; next = 1; level = 7 };
     }
@@ -39,7 +38,7 @@ t3 =
     record {
       before = new;
       earlier = callsOf t2;
-      steps = asked 3 4 (blank 4) gives Told (pos 4) (quoted "e 1\n") ∷ [];
+      steps = asked 3 4 (blank 4) gives told (pos 4) (quoted "e 1\n") ∷ [];
       after = record { used = 35; first = 0; next = 1; level = 7 };
     }
 
@@ -49,9 +48,9 @@ t4 =
     record {
       before = new;
       earlier = callsOf t3;
-      steps = asked 5 0 [] gives Told (pos 0) []
-          ∷ asked 3 4 (blank 4) gives Told (pos 0) (blank 4)
-          ∷ asked 9 0 [] gives Told (pos 12) []
+      steps = asked 5 0 [] gives told (pos 0) []
+          ∷ asked 3 4 (blank 4) gives told (pos 0) (blank 4)
+          ∷ asked 9 0 [] gives told (pos 12) []
           ∷ [];
       after = record { used = 35; first = 0; next = 1; level = 7 };
     }
@@ -62,9 +61,9 @@ t5 =
     record {
       before = new;
       earlier = [];
-      steps = make gives At 0
-          ∷ outside 0 (quoted "<3>x") gives Wrote (pos 4) 0
-          ∷ read 0 (blank 11) gives Read (pos 11) 0 1 (quoted "11,0,0,-;x\n")
+      steps = make gives made 0
+          ∷ outside 0 (quoted "<3>x") gives wrote (pos 4) 0
+          ∷ read 0 (blank 11) gives gave (pos 11) 0 1 (quoted "11,0,0,-;x\n")
           ∷ [];
       after = record { used = 25; first = 0; next = 1; level = 7 };
     }
@@ -75,11 +74,11 @@ t6 =
     record {
       before = new;
       earlier = [];
-      steps = make gives At 0
-          ∷ outside 0 (quoted "<2047>x") gives Wrote (pos 7) 0
-          ∷ outside 0 (quoted "<2048>x") gives Wrote (pos 7) 0
-          ∷ read 0 (blank 13) gives Read (pos 13) 0 1 (quoted "2047,0,0,-;x\n")
-          ∷ read 0 (blank 17) gives Read (pos 17) 0 2 (quoted "12,1,0,-;<2048>x\n")
+      steps = make gives made 0
+          ∷ outside 0 (quoted "<2047>x") gives wrote (pos 7) 0
+          ∷ outside 0 (quoted "<2048>x") gives wrote (pos 7) 0
+          ∷ read 0 (blank 13) gives gave (pos 13) 0 1 (quoted "2047,0,0,-;x\n")
+          ∷ read 0 (blank 17) gives gave (pos 17) 0 2 (quoted "12,1,0,-;<2048>x\n")
           ∷ [];
       after = record { used = 56; first = 0; next = 2; level = 7 };
     }
@@ -90,9 +89,9 @@ t7 =
     record {
       before = new;
       earlier = [];
-      steps = make gives At 0
-          ∷ outside 0 [] gives Wrote (pos 0) 0
-          ∷ read 0 (blank 10) gives Read (pos 10) 0 1 (quoted "12,0,0,-;\n")
+      steps = make gives made 0
+          ∷ outside 0 [] gives wrote (pos 0) 0
+          ∷ read 0 (blank 10) gives gave (pos 10) 0 1 (quoted "12,0,0,-;\n")
           ∷ [];
       after = record { used = 24; first = 0; next = 1; level = 7 };
     }
@@ -103,9 +102,9 @@ t8 =
     record {
       before = new;
       earlier = [];
-      steps = make gives At 0
-          ∷ outside 0 (quoted "\n\n") gives Wrote (pos 2) 0
-          ∷ read 0 (blank 14) gives Read (pos 14) 0 1 (quoted "12,0,0,-;\\x0a\n")
+      steps = make gives made 0
+          ∷ outside 0 (quoted "\n\n") gives wrote (pos 2) 0
+          ∷ read 0 (blank 14) gives gave (pos 14) 0 1 (quoted "12,0,0,-;\\x0a\n")
           ∷ [];
       after = record { used = 25; first = 0; next = 1; level = 7 };
     }
@@ -116,9 +115,9 @@ t9 =
     record {
       before = new;
       earlier = [];
-      steps = make gives At 0
-          ∷ outside 0 (126 ∷ 127 ∷ 92 ∷ []) gives Wrote (pos 3) 0
-          ∷ read 0 (blank 19) gives Read (pos 19) 0 1 (quoted "12,0,0,-;~\\x7f\\x5c\n")
+      steps = make gives made 0
+          ∷ outside 0 (126 ∷ 127 ∷ 92 ∷ []) gives wrote (pos 3) 0
+          ∷ read 0 (blank 19) gives gave (pos 19) 0 1 (quoted "12,0,0,-;~\\x7f\\x5c\n")
           ∷ [];
       after = record { used = 27; first = 0; next = 1; level = 7 };
     }
@@ -129,11 +128,11 @@ t10 =
     record {
       before = new;
       earlier = [];
-      steps = make gives At 0
-          ∷ outside 999 [] gives Wrote (pos 0) 0
-          ∷ outside 1000 [] gives Wrote (pos 0) 0
-          ∷ read 0 (blank 10) gives Read (pos 10) 0 1 (quoted "12,0,0,-;\n")
-          ∷ read 0 (blank 10) gives Read (pos 10) 0 2 (quoted "12,1,1,-;\n")
+      steps = make gives made 0
+          ∷ outside 999 [] gives wrote (pos 0) 0
+          ∷ outside 1000 [] gives wrote (pos 0) 0
+          ∷ read 0 (blank 10) gives gave (pos 10) 0 1 (quoted "12,0,0,-;\n")
+          ∷ read 0 (blank 10) gives gave (pos 10) 0 2 (quoted "12,1,1,-;\n")
           ∷ [];
       after = record { used = 48; first = 0; next = 2; level = 7 };
     }
@@ -144,10 +143,10 @@ t11 =
     record {
       before = new;
       earlier = [];
-      steps = make gives At 0
-          ∷ (replicate 42 (outside 0 [] gives Wrote (pos 0) 0)
-          ++ (outside 0 [] gives Wrote (pos 0) 1
-          ∷ read 0 [] gives Read (minus 32) 1 1 []
+      steps = make gives made 0
+          ∷ (replicate 42 (outside 0 [] gives wrote (pos 0) 0)
+          ++ (outside 0 [] gives wrote (pos 0) 1
+          ∷ read 0 [] gives gave (minus 32) 1 1 []
           ∷ []));
       after = record { used = 1008; first = 1; next = 43; level = 7 };
     }
@@ -158,9 +157,9 @@ t12 =
     record {
       before = new;
       earlier = callsOf t11;
-      steps = outside 0 (replicate 960 97) gives Wrote (pos 960) 41
-          ∷ make gives At 42
-          ∷ outside 0 (replicate 961 97) gives Wrote (minus 22) 0
+      steps = outside 0 (replicate 960 97) gives wrote (pos 960) 41
+          ∷ make gives made 42
+          ∷ outside 0 (replicate 961 97) gives wrote (minus 22) 0
           ∷ [];
       after = record { used = 1008; first = 42; next = 44; level = 7 };
     }
@@ -186,7 +185,7 @@ t14 =
     record {
       earlier = [];
       message = quoted "134,7,1,-;1-0\n";
-      answer = accepted;
+      answer = 0;
       channels = shows 7 (quoted "1-0") ∷ replicate 7 empty;
     }
 
@@ -196,7 +195,7 @@ t15 =
     record {
       earlier = messagesOf t14;
       message = quoted "134,9,3,-;0-0\n";
-      answer = accepted;
+      answer = 0;
       channels = shows 9 (quoted "0-0") ∷ replicate 7 empty;
     }
 
@@ -206,7 +205,7 @@ t16 =
     record {
       earlier = messagesOf t15;
       message = quoted "134,8,2,-;1-0\n";
-      answer = refused 10;
+      answer = 10;
       channels = shows 9 (quoted "0-0") ∷ replicate 7 empty;
     }
 
@@ -216,10 +215,10 @@ last-line =
     record {
       before = new;
       earlier = [];
-      steps = make gives At 0
-          ∷ asked 8 0 [] gives Told (minus 22) []
-          ∷ asked 8 9 [] gives Told (minus 22) []
-          ∷ seek 0 (pos 1) (pos 1) gives Sought (minus 29) 0
+      steps = make gives made 0
+          ∷ asked 8 0 [] gives told (minus 22) []
+          ∷ asked 8 9 [] gives told (minus 22) []
+          ∷ seek 0 (pos 1) (pos 1) gives sought (minus 29) 0
           ∷ [];
       after = record { used = 0; first = 0; next = 0; level = 7 };
     }
