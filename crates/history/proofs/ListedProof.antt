@@ -4,14 +4,15 @@ use mathlib.Core.Path.{_≡_, refl, ap, sym, _∙_, subst}
 use mathlib.Core.Logic.{_⊎_, inl, inr}
 use mathlib.Core.Bool.{Bool, true, false, not, _&&_, _||_, true≢false, false≢true}
 use mathlib.Core.List.{List, [], _∷_, map}
-use borrow.Author.Tests.{ltb-true, lt-ltb, eqb-true, eq-eqb, not-true}
+use borrow.Author.Tests.{ltb-true, lt-ltb, eqb-true, eq-eqb}
 use lib.Dec.{ltb, eqb}
 use lib.IntN.{ℤ, pos, negsuc}
 use lib.ListN.{length, getD}
 use Rattle.slices.specs.Tests.{firstOf}
 use Rattle.slices.specs.Listed.{Exactly}
-use Rattle.slices.proofs.Bools.{and-left, and-right, and-assoc}
+use Rattle.slices.proofs.Bools.{and-assoc}
 use Rattle.slices.proofs.ListedLaws.{Numbered, numbered, exactly}
+use Rattle.slices.proofs.ReflectLaws.{Reflects, not-says, or-says, ltb-says}
 use Rattle.record.specs.Limits.{payloadMost, wordMost, facilityMost, levelMost}
 use Rattle.record.specs.Dictionary.{isDictionary}
 use Rattle.record.specs.Record.{Record}
@@ -33,8 +34,8 @@ use Rattle.syslog.proofs.UnreadLaws.{nothing-unread as nothing-unread-law}
 use Rattle.syslog.specs.declared.Asked.{Asked}
 use Rattle.history.specs.Calls.{Call, outside, box, make, place, read, seek, command, check, console, State, Stepped, readerOf, ifThere, step}
 use Rattle.history.specs.Demand1.{Answers}
-use Rattle.history.specs.Listed.{Copying, Open, Applies, check-fails, above-next, without-privilege, offset-not-0, other-whence, unknown-type, len-below-0, level-outside, over-960, over-960-together, bad-facility, bad-level, bad-dictionary, line-longer, above-lent, outside-at-last, box-at-last, below-first, at-next, nothing-unread, tableNumber, table, readTable, order, Asking, IsCount, Listed, answered}
-use Rattle.history.proofs.ListedTests.{both, fails, not-holds, and-holds, is-true, true-is, one-true, one-of, negative, copying, copying-true, unknown, unknown-true, refused-permission, permission-refused, level-wrong, wrong-level, above, above-true}
+use Rattle.history.specs.Listed.{Applies, check-fails, above-next, without-privilege, offset-not-0, other-whence, unknown-type, len-below-0, level-outside, over-960, over-960-together, bad-facility, bad-level, bad-dictionary, line-longer, above-lent, outside-at-last, box-at-last, below-first, at-next, nothing-unread, tableNumber, table, readTable, order, Asking, IsCount, Listed, answered}
+use Rattle.history.proofs.ListedTests.{is-says, barred-says, box-says, command-says, nothing, unread-says, lent-says, whence-says}
 
 -- ---- a test for each row
 
@@ -64,21 +65,6 @@ by-row P pa pb pc pd pe pf pg ph EAGAIN q = ph q
 -- a row that is not for this call
 never : {X : Type 0} → false ≡ true → X
 never e = absurd (false≢true e)
-
-either : {X : Type 0} (s t : Bool) → s || t ≡ true → (s ≡ true → X) → (t ≡ true → X) → X
-either true t e f g = f refl
-either false t e f g = g e
-
-or-one : (s t : Bool) → s ≡ true → s || t ≡ true
-or-one s t e = rw e
-
-or-other : (s t : Bool) → t ≡ true → s || t ≡ true
-or-other true t e = refl
-or-other false t e = e
-
--- command 2's position is at next, or no record is held
-abbrev nothing : View → Bool
-nothing v = eqb (v .marks .position) (nextOf v) || eqb (length (v .records)) 0
 
 abbrev reader : List ℕ → ℕ → ℕ
 reader readers i = getD readers i 0
@@ -110,44 +96,8 @@ module _ (failing : Type 0) (bad : Bool) (bs : bad ≡ true → failing) (bc : f
   abbrev Row : Call → Refusal → Type 0
   Row c r = Applies failing v readers c r
 
-  box-sound : (facility level time : ℕ) (text dictionary : List ℕ)
-      → ltb facilityMost facility || (ltb levelMost level || (ltb payloadMost (length text + length dictionary) || not (isDictionary dictionary))) ≡ true
-      → Row (box facility level time text dictionary) EINVAL
-  box-sound facility level time text dictionary e =
-      either (ltb facilityMost facility) _ e (λ q. bad-facility (ltb-true facilityMost facility q))
-      (λ e. either (ltb levelMost level) _ e (λ q. bad-level (ltb-true levelMost level q))
-      (λ e. either (ltb payloadMost (length text + length dictionary)) _ e
-      (λ q. over-960-together (ltb-true payloadMost (length text + length dictionary) q))
-      (λ q. bad-dictionary (λ d. both (isDictionary dictionary) d (not-true (isDictionary dictionary) q)))))
-
-  seek-sound : (i : ℕ) (offset whence : ℤ) → not (oneOf whence (0 ∷ 2 ∷ 3 ∷ [])) ≡ true → Row (seek i offset whence) EINVAL
-  seek-sound i offset whence e =
-      let f : oneOf whence (0 ∷ 2 ∷ 3 ∷ []) ≡ false = not-true (oneOf whence (0 ∷ 2 ∷ 3 ∷ [])) e in
-      other-whence (λ q. both (oneOf whence (0 ∷ 2 ∷ 3 ∷ [])) (one-true whence (0 ∷ 2 ∷ 3 ∷ []) 0 (inl refl) q) f)
-      (λ q. both (oneOf whence (0 ∷ 2 ∷ 3 ∷ [])) (one-true whence (0 ∷ 2 ∷ 3 ∷ []) 2 (inr (inl refl)) q) f)
-      (λ q. both (oneOf whence (0 ∷ 2 ∷ 3 ∷ [])) (one-true whence (0 ∷ 2 ∷ 3 ∷ []) 3 (inr (inr (inl refl))) q) f)
-
-  invalid-sound : (a : Asked) (lent : List ℕ)
-      → not (isKnown (a .command)) || ((copies (a .command) && isNegative (a .len)) || (is (a .command) 8 && not (wantsLevel (a .len)))) ≡ true
-      → Row (command a lent) EINVAL
-  invalid-sound a lent e =
-      either (not (isKnown (a .command))) _ e (λ q. unknown-type (unknown (a .command) q))
-      (λ e. either (copies (a .command) && isNegative (a .len)) _ e
-      (λ q.
-      negative (a .len) (and-right (copies (a .command)) (isNegative (a .len)) q)
-      (λ n z. len-below-0 (copying (a .command) (and-left (copies (a .command)) (isNegative (a .len)) q)) z))
-      (λ q.
-      level-outside (is-true (a .command) 8 (and-left (is (a .command) 8) (not (wantsLevel (a .len))) q))
-      (level-wrong (a .len) (and-right (is (a .command) 8) (not (wantsLevel (a .len))) q))))
-
-  unread-sound : (a : Asked) (lent : List ℕ) → is (a .command) 2 && (ltb 0 (natural (a .len)) && nothing v) ≡ true → Row (command a lent) EAGAIN
-  unread-sound a lent e =
-      let f = and-right (is (a .command) 2) (ltb 0 (natural (a .len)) && nothing v) e in
-      above 0 (a .len) (and-left (ltb 0 (natural (a .len))) (nothing v) f)
-      (λ n z h.
-      nothing-unread (is-true (a .command) 2 (and-left (is (a .command) 2) (ltb 0 (natural (a .len)) && nothing v) e)) z h
-      (either (eqb (v .marks .position) (nextOf v)) (eqb (length (v .records)) 0) (and-right (ltb 0 (natural (a .len))) (nothing v) f)
-      (λ q. inl (eqb-true (v .marks .position) (nextOf v) q)) (λ q. inr (eqb-true (length (v .records)) 0 q))))
+  above-read : (i : ℕ) → Reflects (bad || ltb (nextOf v) (reader readers i)) (failing ⊎ (nextOf v < reader readers i))
+  above-read i = or-says (record { says = bs; told = bc }) (ltb-says (nextOf v) (reader readers i))
 
   line-sound : (i : ℕ) (lent : List ℕ) → ltb (length lent) (length (lineAt v (reader readers i))) ≡ true → Row (read i lent) EINVAL
   unfolding lineAt
@@ -163,24 +113,35 @@ module _ (failing : Type 0) (bad : Bool) (bs : bad ≡ true → failing) (bc : f
       by-row (Row (outside time bytes)) (λ e. check-fails (bs e)) never never (λ e. over-960 (ltb-true payloadMost (length bytes) e)) never
       (λ e. outside-at-last (eqb-true (nextOf v) wordMost e)) never never r q
   sound (box facility level time text dictionary) r q =
-      by-row (Row (box facility level time text dictionary)) (λ e. check-fails (bs e)) never never (box-sound facility level time text dictionary) never
-      (λ e. box-at-last (eqb-true (nextOf v) wordMost e)) never never r q
+      by-row (Row (box facility level time text dictionary)) (λ e. check-fails (bs e)) never never
+      (λ e. elim (box-says facility level text dictionary .says e) [
+        | inl h ↦ bad-facility h
+        | inr h ↦ elim h [ inl k ↦ bad-level k | inr k ↦ elim k [ inl l ↦ over-960-together l | inr d ↦ bad-dictionary d ] ]
+      ])
+      never (λ e. box-at-last (eqb-true (nextOf v) wordMost e)) never never r q
   sound make r q = by-row (Row make) (λ e. check-fails (bs e)) never never never never never never never r q
   sound (place i n) r q = by-row (Row (place i n)) (λ e. check-fails (bs e)) never never never never never never never r q
   sound (read i lent) r q =
       by-row (Row (read i lent))
-      (λ e. either bad (ltb (nextOf v) (reader readers i)) e (λ t. check-fails (bs t)) (λ t. above-next (ltb-true (nextOf v) (reader readers i) t)))
+      (λ e. elim (above-read i .says e) [ inl f ↦ check-fails f | inr h ↦ above-next h ])
       never never (line-sound i lent) never never (λ e. below-first (ltb-true (reader readers i) (v .first) e))
       (λ e. at-next (eqb-true (reader readers i) (nextOf v) e)) r q
   sound (seek i offset whence) r q =
-      by-row (Row (seek i offset whence)) (λ e. check-fails (bs e)) never (λ e. offset-not-0 (λ z. both (is offset 0) (true-is offset 0 z) (not-true (is offset 0) e)))
-      (seek-sound i offset whence) never never never never r q
-  sound (command a lent) r q =
-      by-row (Row (command a lent)) (λ e. check-fails (bs e)) (λ e. without-privilege (refused-permission a e .0) (refused-permission a e .1)) never (invalid-sound a lent)
+      by-row (Row (seek i offset whence)) (λ e. check-fails (bs e)) never (λ e. offset-not-0 (not-says (is-says offset 0) .says e))
       (λ e.
-      above (length lent) (a .len) (and-right (copies (a .command)) (ltb (length lent) (natural (a .len))) e)
-      (λ n z h. above-lent (copying (a .command) (and-left (copies (a .command)) (ltb (length lent) (natural (a .len))) e)) z h))
-      never never (unread-sound a lent) r q
+      let n = whence-says whence .says e in
+      other-whence (λ h. n (inl h)) (λ h. n (inr (inl h))) (λ h. n (inr (inr (inl h)))))
+      never never never never r q
+  sound (command a lent) r q =
+      by-row (Row (command a lent)) (λ e. check-fails (bs e))
+      (λ e. let b = barred-says a .says e in without-privilege (b .privilege) (b .closed)) never
+      (λ e. elim (command-says a .says e) [
+        | inl h ↦ unknown-type h
+        | inr h ↦ elim h [ inl k ↦ len-below-0 (k .0) (k .1 .is) | inr k ↦ level-outside (k .0) (k .1) ]
+      ])
+      (λ e. let k = lent-says a (length lent) .says e in above-lent (k .0) (k .1 .is) (k .1 .more))
+      never never
+      (λ e. let k = unread-says v a .says e in nothing-unread (k .0) (k .1 .0 .is) (k .1 .0 .more) (k .1 .1)) r q
   sound check r q = by-row (Row check) (λ e. check-fails (bs e)) never never never never never never never r q
   sound (console level setting) r q = by-row (Row (console level setting)) (λ e. check-fails (bs e)) never never never never never never never r q
 
@@ -190,65 +151,34 @@ module _ (failing : Type 0) (bad : Bool) (bs : bad ≡ true → failing) (bc : f
   bad-first (box facility level time text dictionary) e = e
   bad-first make e = e
   bad-first (place i n) e = e
-  bad-first (read i lent) e = or-one bad (ltb (nextOf v) (reader readers i)) e
+  bad-first (read i lent) e = above-read i .told (inl (bs e))
   bad-first (seek i offset whence) e = e
   bad-first (command a lent) e = e
   bad-first check e = e
   bad-first (console level setting) e = e
 
-  box-third : (facility level : ℕ) (text dictionary : List ℕ)
-      → ltb payloadMost (length text + length dictionary) || not (isDictionary dictionary) ≡ true
-      → ltb facilityMost facility || (ltb levelMost level || (ltb payloadMost (length text + length dictionary) || not (isDictionary dictionary))) ≡ true
-  box-third facility level text dictionary e = or-other (ltb facilityMost facility) _ (or-other (ltb levelMost level) _ e)
-
-  invalid-later : (a : Asked) → (copies (a .command) && isNegative (a .len)) || (is (a .command) 8 && not (wantsLevel (a .len))) ≡ true
-      → not (isKnown (a .command)) || ((copies (a .command) && isNegative (a .len)) || (is (a .command) 8 && not (wantsLevel (a .len)))) ≡ true
-  invalid-later a e = or-other (not (isKnown (a .command))) _ e
-
   complete : (c : Call) (r : Refusal) → Row c r → test bad v readers c r ≡ true
   complete c r (check-fails f) = bad-first c (bc f)
-  complete c r (above-next {i} {lent} h) = or-other bad (ltb (nextOf v) (reader readers i)) (lt-ltb _ _ h)
-  complete c r (without-privilege {a} {lent} p o) = permission-refused a p o
-  complete c r (offset-not-0 {i} {offset} {whence} h) = not-holds (is offset 0) (fails (is offset 0) (λ e. h (is-true offset 0 e)))
+  complete c r (above-next {i} {lent} h) = above-read i .told (inr h)
+  complete c r (without-privilege {a} {lent} p o) = barred-says a .told (record { privilege = p; closed = o })
+  complete c r (offset-not-0 {i} {offset} {whence} h) = not-says (is-says offset 0) .told h
   complete c r (other-whence {i} {offset} {whence} h₀ h₂ h₃) =
-      not-holds (oneOf whence (0 ∷ 2 ∷ 3 ∷ []))
-      (fails (oneOf whence (0 ∷ 2 ∷ 3 ∷ [])) (λ e.
-      one-of whence (0 ∷ 2 ∷ 3 ∷ []) e (λ k i q. elim i [
-        | inl p ↦ h₀ (q ∙ ap pos p)
-        | inr j ↦ elim j [ inl p ↦ h₂ (q ∙ ap pos p) | inr l ↦ elim l [ inl p ↦ h₃ (q ∙ ap pos p) | inr n ↦ absurd n ] ]
-      ])))
-  complete c r (unknown-type {a} {lent} h) = or-one (not (isKnown (a .command))) _ (unknown-true (a .command) h)
-  complete c r (len-below-0 {a} {lent} {n} k z) =
-      invalid-later a
-      (or-one (copies (a .command) && isNegative (a .len)) _
-      (and-holds (copies (a .command)) (isNegative (a .len)) (copying-true (a .command) k) (rw z)))
-  complete c r (level-outside {a} {lent} t h) =
-      invalid-later a
-      (or-other (copies (a .command) && isNegative (a .len)) _
-      (and-holds (is (a .command) 8) (not (wantsLevel (a .len))) (true-is (a .command) 8 t) (wrong-level (a .len) h)))
+      whence-says whence .told (λ h. elim h [ inl e ↦ h₀ e | inr h ↦ elim h [ inl e ↦ h₂ e | inr h ↦ elim h [ inl e ↦ h₃ e | inr n ↦ n ] ] ])
+  complete c r (unknown-type {a} {lent} h) = command-says a .told (inl h)
+  complete c r (len-below-0 {a} {lent} {n} k z) = command-says a .told (inr (inl (k, record { size = n; is = z })))
+  complete c r (level-outside {a} {lent} t h) = command-says a .told (inr (inr (t, h)))
   complete c r (over-960 {time} {bytes} h) = lt-ltb payloadMost (length bytes) h
-  complete c r (over-960-together {facility} {level} {time} {text} {dictionary} h) =
-      box-third facility level text dictionary (or-one (ltb payloadMost (length text + length dictionary)) _ (lt-ltb _ _ h))
-  complete c r (bad-facility {facility} {level} {time} {text} {dictionary} h) = or-one (ltb facilityMost facility) _ (lt-ltb _ _ h)
-  complete c r (bad-level {facility} {level} {time} {text} {dictionary} h) =
-      or-other (ltb facilityMost facility) _ (or-one (ltb levelMost level) _ (lt-ltb _ _ h))
-  complete c r (bad-dictionary {facility} {level} {time} {text} {dictionary} h) =
-      box-third facility level text dictionary
-      (or-other (ltb payloadMost (length text + length dictionary)) _ (not-holds (isDictionary dictionary) (fails (isDictionary dictionary) h)))
+  complete c r (over-960-together {facility} {level} {time} {text} {dictionary} h) = box-says facility level text dictionary .told (inr (inr (inl h)))
+  complete c r (bad-facility {facility} {level} {time} {text} {dictionary} h) = box-says facility level text dictionary .told (inl h)
+  complete c r (bad-level {facility} {level} {time} {text} {dictionary} h) = box-says facility level text dictionary .told (inr (inl h))
+  complete c r (bad-dictionary {facility} {level} {time} {text} {dictionary} h) = box-says facility level text dictionary .told (inr (inr (inr h)))
   complete c r (line-longer {i} {lent} h) = line-complete i lent h
-  complete c r (above-lent {a} {lent} {n} k z h) =
-      and-holds (copies (a .command)) (ltb (length lent) (natural (a .len))) (copying-true (a .command) k) (above-true (length lent) (a .len) n z h)
+  complete c r (above-lent {a} {lent} {n} k z h) = lent-says a (length lent) .told (k, record { size = n; is = z; more = h })
   complete c r (outside-at-last e) = eq-eqb _ _ e
   complete c r (box-at-last e) = eq-eqb _ _ e
   complete c r (below-first h) = lt-ltb _ _ h
   complete c r (at-next e) = eq-eqb _ _ e
-  complete c r (nothing-unread {a} {lent} {n} t z h u) =
-      and-holds (is (a .command) 2) (ltb 0 (natural (a .len)) && nothing v) (true-is (a .command) 2 t)
-      (and-holds (ltb 0 (natural (a .len))) (nothing v) (above-true 0 (a .len) n z h)
-      (elim u [
-        | inl e ↦ or-one (eqb (v .marks .position) (nextOf v)) _ (eq-eqb _ _ e)
-        | inr e ↦ or-other (eqb (v .marks .position) (nextOf v)) _ (eq-eqb _ _ e)
-      ]))
+  complete c r (nothing-unread {a} {lent} {n} t z h u) = unread-says v a .told (t, (record { size = n; is = z; more = h }, u))
 
 -- ---- the ruling is the first row whose test holds
 

@@ -1,5 +1,5 @@
--- The rows of "When the log says no" and the tests that the calls make: a test holds just when its phrase is true.
-use Prim.Native.Nat.{ℕ, _<_, _≤_}
+-- The tests that the calls make, and the phrases of "When the log says no" that they stand for.
+use Prim.Native.Nat.{ℕ, _+_, _<_, _≤_}
 use mathlib.Core.Path.{_≡_, refl, ap, sym, _∙_}
 use mathlib.Core.Logic.{_⊎_, inl, inr}
 use mathlib.Core.Bool.{Bool, true, false, cond, not, _&&_, _||_, true≢false, false≢true}
@@ -9,138 +9,196 @@ use native.Mathlib.Omega.{arith}
 use borrow.Author.Tests.{ltb-true, lt-ltb, leb-true, le-leb, lt-leb, eqb-true, eq-eqb, not-true}
 use lib.Dec.{leb, ltb, eqb}
 use lib.IntN.{ℤ, pos, negsuc}
+use lib.ListN.{length}
 use Rattle.slices.specs.Listed.{In}
-use Rattle.slices.proofs.Bools.{and-left, and-right, or-left, or-right}
-use Rattle.console.specs.Console.{levelLeast, levelMost, isLevel}
+use Rattle.slices.proofs.Bools.{and-left, and-right}
+use Rattle.slices.proofs.ReflectLaws.{Reflects, not-says, and-says, or-says, ltb-says, leb-says, eqb-says}
+use Rattle.record.specs.Limits.{payloadMost, facilityMost, levelMost}
+use Rattle.record.specs.Dictionary.{isDictionary}
 use Rattle.log.specs.Answer.{is, oneOf, isNegative, natural}
+use Rattle.log.specs.View.{View, nextOf}
+use Rattle.console.specs.Console.{isLevel}
 use Rattle.syslog.specs.Command.{copies, isKnown, isPermitted, wantsLevel}
 use Rattle.syslog.specs.declared.Asked.{Asked}
 use Rattle.syslog.proofs.RefusalLaws.{known-is}
 use Rattle.history.specs.Listed.{Copying, Open}
 
--- a test that holds and does not
-pub both : {X : Type 0} (t : Bool) → t ≡ true → t ≡ false → X
-both t a b = absurd (true≢false (sym a ∙ b))
+-- said in other words
+pub same-says : {t : Bool} {P Q : Type 0} → Reflects t P → (P → Q) → (Q → P) → Reflects t Q
+same-says r f g = record { says = λ e. f (r .says e); told = λ q. r .told (g q) }
 
-pub holds : (t : Bool) → (t ≡ false → ⊥) → t ≡ true
-holds true h = refl
-holds false h = absurd (h refl)
+-- a flag that is on, and one that is off
+off-says : (t : Bool) → Reflects (not t) (t ≡ false)
+off-says true = record { says = λ e. absurd (false≢true e); told = λ e. absurd (true≢false e) }
+off-says false = record { says = λ e. refl; told = λ e. refl }
 
-pub fails : (t : Bool) → (t ≡ true → ⊥) → t ≡ false
-fails true h = absurd (h refl)
-fails false h = refl
-
-pub not-holds : (t : Bool) → t ≡ false → not t ≡ true
-not-holds t e = rw e
-
-pub and-holds : (s t : Bool) → s ≡ true → t ≡ true → s && t ≡ true
-and-holds s t e f = rw (e, f)
+pub holds-says : (t : Bool) → Reflects t (t ≡ true)
+holds-says t = record { says = λ e. e; told = λ e. e }
 
 -- ---- signed numbers
 
-pub is-true : (z : ℤ) (k : ℕ) → is z k ≡ true → z ≡ pos k
-is-true (pos n) k e = ap pos (eqb-true n k e)
-is-true (negsuc n) k e = absurd (false≢true e)
-
-pub true-is : (z : ℤ) (k : ℕ) → z ≡ pos k → is z k ≡ true
-true-is z k e = rw e (eq-eqb k k refl)
-
-pub one-true : (z : ℤ) (ks : List ℕ) (k : ℕ) → In k ks → z ≡ pos k → oneOf z ks ≡ true
-one-true z [] k i e = absurd i
-one-true z (j ∷ ks) k (inl p) e =
-    let t : is z j ≡ true = true-is z j (rw (← p) e) in
-    rw t
-one-true z (j ∷ ks) k (inr i) e = go (is z j) (one-true z ks k i e)
+pub is-says : (z : ℤ) (k : ℕ) → Reflects (is z k) (z ≡ pos k)
+is-says (pos n) k = record { says = λ e. ap pos (eqb-true n k e); told = λ e. same n k e }
   where
-    go : (t : Bool) → oneOf z ks ≡ true → cond t true (oneOf z ks) ≡ true
-    go true f = refl
-    go false f = f
-
--- what is one of some is each of them or another
-pub one-of : {X : Type 0} (z : ℤ) (ks : List ℕ) → oneOf z ks ≡ true → ((k : ℕ) → In k ks → z ≡ pos k → X) → X
-one-of z [] e f = absurd (false≢true e)
-one-of {X} z (j ∷ ks) e f = go (is z j) refl (λ g. one-of z ks g (λ k i. f k (inr i)))
+    same : (n k : ℕ) → pos n ≡ pos k → eqb n k ≡ true
+    same n k e =
+        let f : n ≡ k = cc in
+        eq-eqb n k f
+is-says (negsuc n) k = record { says = λ e. absurd (false≢true e); told = λ e. never n k e }
   where
-    go : (t : Bool) → is z j ≡ t → (oneOf z ks ≡ true → X) → X
-    go true q later = f j (inl refl) (is-true z j q)
-    go false q later = later (rw q at e)
+    never : (n k : ℕ) → negsuc n ≡ pos k → is (negsuc n) k ≡ true
+    never n k e =
+        let z : _≡_ {A = ℕ} 0 1 = cc in
+        absurd (omega arith)
 
-pub negative : {X : Type 0} (z : ℤ) → isNegative z ≡ true → ((n : ℕ) → z ≡ negsuc n → X) → X
-negative (pos n) e f = absurd (false≢true e)
-negative (negsuc n) e f = f n refl
+-- one of some
+abbrev pub OneOf : ℤ → List ℕ → Type 0
+OneOf z [] = ⊥
+OneOf z (k ∷ ks) = (z ≡ pos k) ⊎ OneOf z ks
+
+pub one-says : (z : ℤ) (ks : List ℕ) → Reflects (oneOf z ks) (OneOf z ks)
+one-says z [] = record { says = λ e. false≢true e; told = λ h. absurd h }
+one-says z (k ∷ ks) = go (is z k) (is-says z k) (one-says z ks)
+  where
+    go : (t : Bool) → Reflects t (z ≡ pos k) → Reflects (oneOf z ks) (OneOf z ks) → Reflects (cond t true (oneOf z ks)) ((z ≡ pos k) ⊎ OneOf z ks)
+    go true r s = record { says = λ e. inl (r .says refl); told = λ h. refl }
+    go false r s =
+        record { says = λ e. inr (s .says e); told = λ h. elim h [ inl e ↦ absurd (false≢true (r .told e)) | inr o ↦ s .told o ] }
+
+-- below 0
+pub record Below (z : ℤ) : Type 0 where
+  pub size : ℕ
+  pub is : z ≡ negsuc size
+
+pub below-says : (z : ℤ) → Reflects (isNegative z) (Below z)
+below-says (pos n) = record { says = λ e. absurd (false≢true e); told = λ b. never n (b .size) (b .is) }
+  where
+    never : (n k : ℕ) → pos n ≡ negsuc k → isNegative (pos n) ≡ true
+    never n k e =
+        let z : _≡_ {A = ℕ} 0 1 = cc in
+        absurd (omega arith)
+below-says (negsuc n) = record { says = λ e. record { size = n; is = refl }; told = λ b. refl }
+
+-- above a number
+pub record Above (m : ℕ) (z : ℤ) : Type 0 where
+  pub size : ℕ
+  pub is : z ≡ pos size
+  pub more : m < size
+
+pub above-says : (m : ℕ) (z : ℤ) → Reflects (ltb m (natural z)) (Above m z)
+above-says m z = record { says = says z; told = λ a. rw (a .is) (lt-ltb m (a .size) (a .more)) }
+  where
+    says : (z : ℤ) → ltb m (natural z) ≡ true → Above m z
+    says (pos n) e = record { size = n; is = refl; more = ltb-true m n e }
+    says (negsuc n) e = absurd (omega (arith, ltb-true m 0 e))
 
 -- ---- commands
 
-pub copying : (z : ℤ) → copies z ≡ true → Copying z
-copying z e = one-of z (2 ∷ 3 ∷ 4 ∷ []) e (λ k i q. elim i [
-  | inl p ↦ inl (q ∙ ap pos p)
-  | inr j ↦ elim j [ inl p ↦ inr (inl (q ∙ ap pos p)) | inr l ↦ elim l [ inl p ↦ inr (inr (q ∙ ap pos p)) | inr n ↦ absurd n ] ]
-])
+pub copying-says : (z : ℤ) → Reflects (copies z) (Copying z)
+copying-says z =
+    same-says (one-says z (2 ∷ 3 ∷ 4 ∷ []))
+    (λ h. elim h [ inl a ↦ inl a | inr h ↦ elim h [ inl b ↦ inr (inl b) | inr h ↦ elim h [ inl c ↦ inr (inr c) | inr n ↦ absurd n ] ] ])
+    (λ h. elim h [ inl a ↦ inl a | inr h ↦ elim h [ inl b ↦ inr (inl b) | inr c ↦ inr (inr (inl c)) ] ])
 
-pub copying-true : (z : ℤ) → Copying z → copies z ≡ true
-copying-true z (inl e) = one-true z (2 ∷ 3 ∷ 4 ∷ []) 2 (inl refl) e
-copying-true z (inr (inl e)) = one-true z (2 ∷ 3 ∷ 4 ∷ []) 3 (inr (inl refl)) e
-copying-true z (inr (inr e)) = one-true z (2 ∷ 3 ∷ 4 ∷ []) 4 (inr (inr (inl refl))) e
+abbrev pub Unknown : ℤ → Type 0
+Unknown z = (n : ℕ) → n ≤ 10 → z ≡ pos n → ⊥
 
-pub unknown : (z : ℤ) → not (isKnown z) ≡ true → (n : ℕ) → n ≤ 10 → z ≡ pos n → ⊥
-unknown z e n h q =
-    let k : isKnown (pos n) ≡ true = sym (known-is (pos n)) ∙ le-leb n 10 h in
-    both (isKnown z) (ap isKnown q ∙ k) (not-true (isKnown z) e)
+pub unknown-says : (z : ℤ) → Reflects (not (isKnown z)) (Unknown z)
+unknown-says z = record { says = says; told = told z }
+  where
+    says : not (isKnown z) ≡ true → Unknown z
+    says e n h q =
+        let k : isKnown z ≡ true = ap isKnown q ∙ sym (known-is (pos n)) ∙ le-leb n 10 h in
+        true≢false (sym k ∙ not-true (isKnown z) e)
 
-pub unknown-true : (z : ℤ) → ((n : ℕ) → n ≤ 10 → z ≡ pos n → ⊥) → not (isKnown z) ≡ true
-unknown-true (pos n) h = elim (decLt 10 n) [
-  | yes g ↦ not-holds (isKnown (pos n)) (sym (known-is (pos n)) ∙ lt-leb n 10 g)
-  | no g ↦ absurd (h n (omega arith) refl)
-]
-unknown-true (negsuc n) h = refl
+    told : (z : ℤ) → Unknown z → not (isKnown z) ≡ true
+    told (pos n) h = elim (decLt 10 n) [
+      | yes g ↦
+          let k : isKnown (pos n) ≡ false = sym (known-is (pos n)) ∙ lt-leb n 10 g in
+          rw k
+      | no g ↦ absurd (h n (omega arith) refl)
+    ]
+    told (negsuc n) h = refl
 
-pub opens : (a : Asked) → Open a → oneOf (a .command) (3 ∷ 10 ∷ []) && not (a .restriction) ≡ true
-opens a o =
-    and-holds (oneOf (a .command) (3 ∷ 10 ∷ [])) (not (a .restriction))
-    (elim (o .type) [
-      | inl e ↦ one-true (a .command) (3 ∷ 10 ∷ []) 3 (inl refl) e
-      | inr e ↦ one-true (a .command) (3 ∷ 10 ∷ []) 10 (inr (inl refl)) e
-    ])
-    (not-holds (a .restriction) (o .restriction))
+open-says : (a : Asked) → Reflects (oneOf (a .command) (3 ∷ 10 ∷ []) && not (a .restriction)) (Open a)
+open-says a =
+    same-says (and-says (one-says (a .command) (3 ∷ 10 ∷ [])) (off-says (a .restriction)))
+    (λ h. record {
+      type = elim (h .0) [ inl e ↦ inl e | inr k ↦ elim k [ inl e ↦ inr e | inr n ↦ absurd n ] ];
+      restriction = h .1;
+    })
+    (λ o. (elim (o .type) [ inl e ↦ inl e | inr e ↦ inr (inl e) ], o .restriction))
 
-open-of : (a : Asked) → oneOf (a .command) (3 ∷ 10 ∷ []) && not (a .restriction) ≡ true → Open a
-open-of a e =
-    record {
-      type =
-          one-of (a .command) (3 ∷ 10 ∷ []) (and-left (oneOf (a .command) (3 ∷ 10 ∷ [])) (not (a .restriction)) e)
-          (λ k i q. elim i [ inl p ↦ inl (q ∙ ap pos p) | inr j ↦ elim j [ inl p ↦ inr (q ∙ ap pos p) | inr n ↦ absurd n ] ]);
-      restriction = not-true (a .restriction) (and-right (oneOf (a .command) (3 ∷ 10 ∷ [])) (not (a .restriction)) e);
-    }
+-- neither privilege nor an open command
+pub record Barred (a : Asked) : Type 0 where
+  pub privilege : a .privilege ≡ false
+  pub closed : Open a → ⊥
 
-pub refused-permission : (a : Asked) → not (isPermitted a) ≡ true → (a .privilege ≡ false) × (Open a → ⊥)
-refused-permission a e =
-    let t = oneOf (a .command) (3 ∷ 10 ∷ []) && not (a .restriction) in
-    let f : a .privilege || t ≡ false = not-true (a .privilege || t) e in
-    (or-left (a .privilege) t f, λ o. both t (opens a o) (or-right (a .privilege) t f))
+pub barred-says : (a : Asked) → Reflects (not (isPermitted a)) (Barred a)
+barred-says a =
+    same-says (not-says (or-says (holds-says (a .privilege)) (open-says a)))
+    (λ n. record { privilege = off-says (a .privilege) .says (not-says (holds-says (a .privilege)) .told (λ e. n (inl e))); closed = λ o. n (inr o) })
+    (λ b h. elim h [ inl e ↦ true≢false (sym e ∙ b .privilege) | inr o ↦ b .closed o ])
 
-pub permission-refused : (a : Asked) → a .privilege ≡ false → (Open a → ⊥) → not (isPermitted a) ≡ true
-permission-refused a p h =
-    let t = oneOf (a .command) (3 ∷ 10 ∷ []) && not (a .restriction) in
-    let f : t ≡ false = fails t (λ e. h (open-of a e)) in
-    rw (p, f)
+abbrev pub NoLevel : ℤ → Type 0
+NoLevel z = (n : ℕ) → 1 ≤ n → n ≤ 8 → z ≡ pos n → ⊥
 
-pub level-wrong : (z : ℤ) → not (wantsLevel z) ≡ true → (n : ℕ) → levelLeast ≤ n → n ≤ levelMost → z ≡ pos n → ⊥
-level-wrong z e n l h q =
-    let k : wantsLevel (pos n) ≡ true = rw (le-leb levelLeast n l, le-leb n levelMost h) in
-    both (wantsLevel z) (ap wantsLevel q ∙ k) (not-true (wantsLevel z) e)
+pub level-says : (z : ℤ) → Reflects (not (wantsLevel z)) (NoLevel z)
+level-says z = record { says = says; told = told z }
+  where
+    says : not (wantsLevel z) ≡ true → NoLevel z
+    says e n l h q =
+        let k : wantsLevel (pos n) ≡ true = rw (le-leb 1 n l, le-leb n 8 h) in
+        true≢false (sym (ap wantsLevel q ∙ k) ∙ not-true (wantsLevel z) e)
 
-pub wrong-level : (z : ℤ) → ((n : ℕ) → levelLeast ≤ n → n ≤ levelMost → z ≡ pos n → ⊥) → not (wantsLevel z) ≡ true
-wrong-level (pos n) h =
-    not-holds (isLevel n)
-    (fails (isLevel n) (λ e.
-    h n (leb-true levelLeast n (and-left (leb levelLeast n) (leb n levelMost) e))
-    (leb-true n levelMost (and-right (leb levelLeast n) (leb n levelMost) e)) refl))
-wrong-level (negsuc n) h = refl
+    told : (z : ℤ) → NoLevel z → not (wantsLevel z) ≡ true
+    told (pos n) h =
+        not-says (and-says (leb-says 1 n) (leb-says n 8)) .told (λ p. h n (p .0) (p .1) refl)
+    told (negsuc n) h = refl
 
--- a length above another is not below 0
-pub above : {X : Type 0} (m : ℕ) (z : ℤ) → ltb m (natural z) ≡ true → ((n : ℕ) → z ≡ pos n → m < n → X) → X
-above m (pos n) e f = f n refl (ltb-true m n e)
-above m (negsuc n) e f = absurd (omega (arith, ltb-true m 0 e))
+-- ---- the rows that have more than one phrase, or more than one part
 
-pub above-true : (m : ℕ) (z : ℤ) (n : ℕ) → z ≡ pos n → m < n → ltb m (natural z) ≡ true
-above-true m z n e h = rw e (lt-ltb m n h)
+abbrev pub WrongBox : ℕ → ℕ → List ℕ → List ℕ → Type 0
+WrongBox facility level text dictionary =
+    (facilityMost < facility)
+    ⊎ ((levelMost < level) ⊎ ((payloadMost < length text + length dictionary) ⊎ (isDictionary dictionary ≡ true → ⊥)))
+
+pub box-says : (facility level : ℕ) (text dictionary : List ℕ)
+    → Reflects (ltb facilityMost facility || (ltb levelMost level || (ltb payloadMost (length text + length dictionary) || not (isDictionary dictionary))))
+    (WrongBox facility level text dictionary)
+box-says facility level text dictionary =
+    or-says (ltb-says facilityMost facility)
+    (or-says (ltb-says levelMost level)
+    (or-says (ltb-says payloadMost (length text + length dictionary)) (not-says (holds-says (isDictionary dictionary)))))
+
+abbrev pub WrongCommand : Asked → Type 0
+WrongCommand a =
+    Unknown (a .command) ⊎ ((Copying (a .command) × Below (a .len)) ⊎ ((a .command ≡ pos 8) × NoLevel (a .len)))
+
+pub command-says : (a : Asked)
+    → Reflects
+    (not (isKnown (a .command)) || ((copies (a .command) && isNegative (a .len)) || (is (a .command) 8 && not (wantsLevel (a .len)))))
+    (WrongCommand a)
+command-says a =
+    or-says (unknown-says (a .command))
+    (or-says (and-says (copying-says (a .command)) (below-says (a .len))) (and-says (is-says (a .command) 8) (level-says (a .len))))
+
+-- command 2's position is at next, or no record is held
+abbrev pub nothing : View → Bool
+nothing v = eqb (v .marks .position) (nextOf v) || eqb (length (v .records)) 0
+
+abbrev pub Nothing : View → Type 0
+Nothing v = (v .marks .position ≡ nextOf v) ⊎ (length (v .records) ≡ 0)
+
+pub nothing-says : (v : View) → Reflects (nothing v) (Nothing v)
+nothing-says v = or-says (eqb-says (v .marks .position) (nextOf v)) (eqb-says (length (v .records)) 0)
+
+pub unread-says : (v : View) (a : Asked)
+    → Reflects (is (a .command) 2 && (ltb 0 (natural (a .len)) && nothing v)) ((a .command ≡ pos 2) × (Above 0 (a .len) × Nothing v))
+unread-says v a = and-says (is-says (a .command) 2) (and-says (above-says 0 (a .len)) (nothing-says v))
+
+pub lent-says : (a : Asked) (room : ℕ) → Reflects (copies (a .command) && ltb room (natural (a .len))) (Copying (a .command) × Above room (a .len))
+lent-says a room = and-says (copying-says (a .command)) (above-says room (a .len))
+
+pub whence-says : (z : ℤ) → Reflects (not (oneOf z (0 ∷ 2 ∷ 3 ∷ []))) (OneOf z (0 ∷ 2 ∷ 3 ∷ []) → ⊥)
+whence-says z = not-says (one-says z (0 ∷ 2 ∷ 3 ∷ []))
