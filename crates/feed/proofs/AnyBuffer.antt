@@ -17,15 +17,16 @@ use Rattle.number.specs.Decimal.{decimal}
 use Rattle.escape.specs.Escape.{kmsgBytes}
 use Rattle.record.specs.declared.Seq.{Seq}
 use Rattle.message.specs.Message.{Reading, reading}
-use Rattle.board.specs.Board.{State, state, fresh, channels, slotSize, emptySlot, lacksRoom, channel, boardRefusal, show, Delivered, deliver}
+use Rattle.board.specs.Board.{state, fresh, channels, slotSize, facilityFirst, emptySlot, lacksRoom, channel, boardRefusal, show, deliver}
 use Rattle.board.specs.declared.Shown.{Shown}
 use Rattle.board.specs.declared.Shown.the-variants.{Nothing as nothing, Record as recordOf}
 use Rattle.board.specs.declared.Slot.{Slot}
 use Rattle.board.proofs.SlotLaws.{slot-fits, other-text}
 use Rattle.board.proofs.DeliverLaws.{channel-below}
 use Rattle.board.proofs.TakenLaws.{Taken, taken, taken-fit, taken-text, taken-room}
-use Rattle.feed.specs.Feed.{inputMost, messages, Fed, fed, countRefused, feedAll, shownText, lineOf, channelLine, channelLines, report, output}
+use Rattle.feed.specs.Feed.{inputMost, messages, fed, feedAll, shownText, lineOf, channelLine, channelLines, report, output}
 use Rattle.feed.specs.AnyBuffer.{AnyBuffer}
+use Rattle.feed.proofs.FeedLaws.{after, deliver-taken, deliver-refused}
 
 record Alike (slots : List Slot) (a b : List ℕ) : Type 0 where
   size : length a ≡ length b
@@ -38,15 +39,6 @@ record Alike (slots : List Slot) (a b : List ℕ) : Type 0 where
 same-refusal : (slots : List Slot) (a b m : List ℕ) → length a ≡ length b → boardRefusal (state slots a) m ≡ boardRefusal (state slots b) m
 unfolding boardRefusal lacksRoom
 same-refusal slots a b m e = rw e
-
-module _ (x : State) (m : List ℕ) where
-  deliver-taken : boardRefusal x m ≡ 0 → deliver x m ≡ record { answer = 0; board = show x (reading m) }
-  unfolding deliver
-  deliver-taken e = rw e
-
-  deliver-refused : eqb (boardRefusal x m) 0 ≡ false → deliver x m ≡ record { answer = boardRefusal x m; board = x }
-  unfolding deliver
-  deliver-refused e = rw e
 
 -- the slot of a message's channel, once it shows it
 abbrev newSlot : Reading → Slot
@@ -110,7 +102,7 @@ line-same slots a b k i = go (getD slots i emptySlot .shown) refl
     go : (o : Shown) → getD slots i emptySlot .shown ≡ o → lineOf (state slots a) i o ≡ lineOf (state slots b) i o
     go nothing e = refl
     go (recordOf s) e =
-        ap (λ (x : List ℕ). decimal (16 + i) ++ (32 ∷ (decimal (s .0) ++ (32 ∷ (kmsgBytes x ++ (10 ∷ [])))))) (k .texts i s e)
+        ap (λ (x : List ℕ). decimal (facilityFirst + i) ++ (32 ∷ (decimal (s .0) ++ (32 ∷ (kmsgBytes x ++ (10 ∷ [])))))) (k .texts i s e)
 
 lines-same : (slots : List Slot) (a b : List ℕ) → Alike slots a b → (i n : ℕ) → channelLines (state slots a) i n ≡ channelLines (state slots b) i n
 unfolding channelLines
@@ -122,10 +114,6 @@ unfolding report
 report-same slots a b n k = rw (lines-same slots a b k 0 channels)
 
 -- ---- a feed
-
--- what is left of a feed, behind a delivery
-abbrev next : ℕ → List (List ℕ) → Delivered → Fed
-next n ms d = feedAll (d .board) (n + countRefused (d .answer)) ms
 
 feed-same : (slots : List Slot) (a b : List ℕ) (n : ℕ) (ms : List (List ℕ)) → Alike slots a b
     → report (feedAll (state slots a) n ms) ≡ report (feedAll (state slots b) n ms)
@@ -139,7 +127,7 @@ feed-same slots a b n (m ∷ ms) k =
 
     go : (z : Bool) → eqb (boardRefusal (state slots a) m) 0 ≡ z
         → ((s : List Slot) (x y : List ℕ) (j : ℕ) → Alike s x y → report (feedAll (state s x) j ms) ≡ report (feedAll (state s y) j ms))
-        → report (next n ms (deliver (state slots a) m)) ≡ report (next n ms (deliver (state slots b) m))
+        → report (after n ms (deliver (state slots a) m)) ≡ report (after n ms (deliver (state slots b) m))
     go true q ih =
         let e : boardRefusal (state slots a) m ≡ 0 = eqb-true (boardRefusal (state slots a) m) 0 q in
         rw (deliver-taken (state slots a) m e, deliver-taken (state slots b) m (sym same ∙ e))

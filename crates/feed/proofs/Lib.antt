@@ -3,6 +3,7 @@ pub mod FeedLaws
 pub mod MeasureLaws
 pub mod WriteLaws
 pub mod ReportLaws
+pub mod KeptLaws
 pub mod RunLaws
 pub mod LongestLaws
 pub mod Cases

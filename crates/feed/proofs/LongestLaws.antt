@@ -17,7 +17,7 @@ use Rattle.escape.specs.Escape.{kmsgBytes}
 use Rattle.escape.proofs.EscapeLaws.{kmsg-most}
 use Rattle.record.specs.Limits.{wordMost, prefixMost}
 use Rattle.header.specs.Header.{field, isNumber, lacksNumber}
-use Rattle.message.specs.Message.{text, dictionary, isBulky, refusal, reading}
+use Rattle.message.specs.Message.{text, dictionary, isBulky, reading}
 use Rattle.message.proofs.AcceptLaws.{Clear, clear}
 use Rattle.board.specs.Board.{State, channels, emptySlot, fresh, slot, slotSize, facilityFirst, slotFits, channel, boardRefusal, show, Delivered, deliver}
 use Rattle.board.specs.declared.Shown.{Shown}

@@ -6,7 +6,7 @@ use mathlib.Core.List.{List, [], _∷_, _++_}
 use native.Mathlib.Omega.{arith}
 use lib.Dec.{leb}
 use lib.ListN.{length, take, set, length-append}
-use borrow.Author.Tests.{leb-false}
+use borrow.Author.Tests.{leb-true, leb-false}
 use Rattle.slices.specs.Put.{put, Left, left, placed}
 use Rattle.slices.specs.declared.Placed.the-variants.{End, NoRoom}
 use Rattle.slices.specs.declared.Placed.{Placed}
@@ -45,6 +45,18 @@ module _ (out : List ℕ) (at : ℕ) (bytes : List ℕ) {r : Placed} {out′ : L
           let z : _≡_ {A = ℕ} 0 1 = cc in
           absurd (omega arith)
       go false p e = leb-false (at + length bytes) (length out) p
+
+  pub placed-fits : {k : ℕ} → r ≡ End k → at + length bytes ≤ length out
+  unfolding placed
+  placed-fits {k} q = go (leb (at + length bytes) (length out)) refl e
+    where
+      go : (t : Bool) → leb (at + length bytes) (length out) ≡ t → left r out′ ≡ cond t (left (End (at + length bytes)) (put out at bytes)) (left NoRoom out)
+          → at + length bytes ≤ length out
+      go true p e = leb-true (at + length bytes) (length out) p
+      go false p e =
+          let a : r ≡ NoRoom = ap (λ (l : Left). l .answer) e in
+          let z : _≡_ {A = ℕ} 0 1 = cc in
+          absurd (omega arith)
 
 -- ---- parts written one behind the other
 

@@ -13,6 +13,7 @@ ghost use Rattle.escape.specs.Answers.{Written};
 ghost use Rattle.board.specs.Board.{channels, slotSize, answerNumber, fresh, state};
 ghost use Rattle.feed.specs.Feed.{messages, messageLength, fed, countRefused, feedAll, channelLines, report, output, bufferAfter};
 ghost use Rattle.feed.specs.Printing.{measured, field, shownLine, refusedLine};
+ghost use Rattle.feed.specs.Kept.{restored, settled};
 
 // The longest input of the receiver program.
 pub const INPUT: usize = 65536;
@@ -198,16 +199,40 @@ pub fn print(board: Board, buffer: &[u8], refused: u64, out: &mut [u8]) -> Place
     Placed::End(write_refused(refused, out, at))
 }
 
-// The receiver program: what is written for this input, put into a buffer if there is room.
+// The kept bytes, put back into the board's buffer. A buffer of another length was never written.
+fn restore(kept: &[u8], buffer: &mut [u8])
+    ensures { λ r. ⌜ now (buffer .exit) ≡ restored (now (kept .entry)) (now (buffer .entry)) ⌝ }
+{
+    if buffer.len() == kept.len() {
+        slices::copy(kept, buffer, 0);
+    }
+}
+
+// The report of a feed, put into a buffer; or, without room for it, the board's buffer as it was kept.
+fn print_or_restore(r: Received, kept: &[u8], buffer: &mut [u8], out: &mut [u8]) -> Placed
+    ensures { λ p. ⌜ left p (now (out .exit)) ≡ placed (now (out .entry)) 0 (report (fed (state (r .board .slots) (now (buffer .entry))) (r .refused))) ⌝ }
+    ensures { λ p. ⌜ now (buffer .exit) ≡ settled (now (kept .entry)) (fed (state (r .board .slots) (now (buffer .entry))) (r .refused)) (length (now (out .entry))) ⌝ }
+{
+    let board = r.board;
+    match print(board, buffer, r.refused, out) {
+        Placed::End(end) => Placed::End(end),
+        Placed::NoRoom => {
+            restore(kept, buffer);
+            Placed::NoRoom
+        }
+    }
+}
+
+// The receiver program: what is written for this input, put into a buffer if there is room. Without room all is as it was.
 pub fn run(input: &[u8], buffer: &mut [u8], out: &mut [u8]) -> Placed
     ensures { λ r. ⌜ left r (now (out .exit)) ≡ placed (now (out .entry)) 0 (output (now (buffer .entry)) (now (input .entry))) ⌝ }
-    ensures { λ r. ⌜ now (buffer .exit) ≡ bufferAfter (now (buffer .entry)) (now (input .entry)) ⌝ }
+    ensures { λ r. ⌜ now (buffer .exit) ≡ bufferAfter (now (buffer .entry)) (now (input .entry)) (length (now (out .entry))) ⌝ }
 {
     if INPUT < input.len() {
         return slices::copy(b"input too long\n", out, 0);
     }
+    let mut kept = [0u8; Board::BUFFER];
+    slices::copy(buffer, &mut kept, 0);
     let r = receive(input, buffer);
-    let board = r.board;
-    let refused = r.refused;
-    print(board, buffer, refused, out)
+    print_or_restore(r, &kept, buffer, out)
 }
