@@ -13,6 +13,7 @@ use lib.ListN.{length}
 use Rattle.slices.specs.Put.{Left, placed, put}
 use Rattle.slices.specs.Put.{left as putLeft}
 use Rattle.slices.specs.declared.Placed.the-variants.{End, NoRoom}
+use Rattle.slices.proofs.Bools.{or-true}
 use Rattle.console.specs.Console.{isLevel, levelSet, setTo, setNumber}
 use Rattle.console.specs.declared.Console.{Console}
 use Rattle.message.specs.Message.{ROOM, BULK, text, dictionary, refusal, reading}
@@ -24,19 +25,18 @@ use Rattle.board.proofs.AnswerLaws.{refusal-most}
 use Rattle.feed.specs.Feed.{inputMost, output, bufferAfter}
 use Rattle.feed.specs.Longest.{reportMost}
 use Rattle.feed.proofs.LongestLaws.{longest-report}
-use Rattle.history.specs.Calls.{Reply, made, set, gave, sought, told, verdict, shown, nobody, step}
-use Rattle.history.specs.Calls.{wrote as wroteLog}
+use Rattle.history.specs.Calls.{Reply, wrote, made, set, gave, sought, told, verdict, shown, nobody, step}
 use Rattle.history.specs.Calls.{Call as LogCall, State as LogState}
 use Rattle.history.specs.Demand1.{Answers}
 use Rattle.history.specs.Demand1.{Known as InTable}
 use Rattle.history.proofs.Demand1.{demand-1}
-use Rattle.product.specs.Calls.{Box, Call, onLog, turnOff, turnOn, setLevel, line, delivery, receiver, Answer, number, byReader, byBoard, wrote, noRoom, other, replied, placedAt, withLog, withConsole, called, handed}
+use Rattle.product.specs.Calls.{Box, Call, onLog, turnOff, turnOn, setLevel, line, delivery, receiver, Answer, number, byReader, byBoard, printed, noRoom, other, replied, placedAt, withLog, withConsole, called, handed}
 use Rattle.product.specs.Demand1.{Known, Refuses, left, Demand1}
 
 -- ---- the log
 
 log-known : (r : Reply) → ((n : ℤ) → Answers r n → InTable n) → Known (replied r)
-log-known (wroteLog a dropped) h = h a refl
+log-known (wrote a dropped) h = h a refl
 log-known (made n) h = tt
 log-known set h = tt
 log-known (gave a lost n lent) h = h a refl
@@ -52,7 +52,7 @@ below (negsuc n) f h = h n refl
 
 -- a reply that refuses answers a number below 0
 refuses : {X : Type 0} (r : Reply) → Refuses (replied r) → ((n : ℤ) (k : ℕ) → Answers r n → n ≡ negsuc k → replied r ≡ number n → X) → X
-refuses (wroteLog a dropped) f h = below a f (λ k e. h a k refl e refl)
+refuses (wrote a dropped) f h = below a f (λ k e. h a k refl e refl)
 refuses (made n) f h = absurd f
 refuses set f h = absurd f
 refuses (gave a lost n lent) f h = below a f (λ k e. h a k refl e refl)
@@ -157,11 +157,7 @@ module _ (input buffer out : List ℕ) where
 
   buffer-kept : leb (length bytes) (length out) ≡ false → bufferAfter buffer input (length out) ≡ buffer
   unfolding bufferAfter
-  buffer-kept e = rw e (go (ltb inputMost (length input)))
-    where
-      go : (t : Bool) → cond t buffer buffer ≡ buffer
-      go true = refl
-      go false = refl
+  buffer-kept e = rw (e, or-true (ltb inputMost (length input)))
 
   out-left : Refuses (placedAt (placed out 0 bytes .answer)) → (bufferAfter buffer input (length out) ≡ buffer) × (placed out 0 bytes .buffer ≡ out)
   out-left = rw put-is (go (leb (length bytes) (length out)) refl)
@@ -171,7 +167,7 @@ module _ (input buffer out : List ℕ) where
       go true e f = absurd f
       go false e f = (buffer-kept e, refl)
 
-  out-room : reportMost ≤ length out → placedAt (placed out 0 bytes .answer) ≡ wrote (length bytes)
+  out-room : reportMost ≤ length out → placedAt (placed out 0 bytes .answer) ≡ printed (length bytes)
   out-room h =
       let e : leb (length bytes) (length out) ≡ true = le-leb (length bytes) (length out) (omega (arith, longest-report buffer input)) in
       rw (put-is, e)

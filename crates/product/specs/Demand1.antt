@@ -12,14 +12,14 @@ use Rattle.feed.specs.Feed.{output}
 use Rattle.feed.specs.Longest.{reportMost}
 use Rattle.history.specs.Demand1.{leftBy}
 use Rattle.history.specs.Demand1.{Known as InTable}
-use Rattle.product.specs.Calls.{Box, Call, onLog, turnOff, turnOn, setLevel, line, delivery, receiver, Answer, number, byReader, byBoard, wrote, noRoom, other, withLog, called, handed}
+use Rattle.product.specs.Calls.{Box, Call, onLog, turnOff, turnOn, setLevel, line, delivery, receiver, Answer, number, byReader, byBoard, printed, noRoom, other, withLog, called, handed}
 
 -- a count, or a number of the tables: -77 .. -11 of the log, 1 to 8 of the line reader, 1 to 10 of the board
 abbrev pub Known : Answer → Type 0
 Known (number n) = InTable n
 Known (byReader n) = n ≤ BULK
 Known (byBoard n) = n ≤ LATE
-Known (wrote n) = Unit {0}
+Known (printed n) = Unit {0}
 Known noRoom = Unit {0}
 Known other = Unit {0}
 
@@ -31,7 +31,7 @@ Refuses (byReader zero) = ⊥
 Refuses (byReader (suc n)) = Unit {0}
 Refuses (byBoard zero) = ⊥
 Refuses (byBoard (suc n)) = Unit {0}
-Refuses (wrote n) = ⊥
+Refuses (printed n) = ⊥
 Refuses noRoom = Unit {0}
 Refuses other = ⊥
 
@@ -40,7 +40,7 @@ abbrev pub left : Box → Call → Answer → Box
 left b (onLog c) (number n) = withLog b (leftBy (b .log) c n)
 left b (onLog c) (byReader n) = b
 left b (onLog c) (byBoard n) = b
-left b (onLog c) (wrote n) = b
+left b (onLog c) (printed n) = b
 left b (onLog c) noRoom = b
 left b (onLog c) other = b
 left b turnOff a = b
@@ -56,4 +56,4 @@ pub record Demand1 : Type 0 where
   pub lent : (b : Box) (c : Call) → Refuses (called b c .answer) → called b c .lent ≡ handed c
   -- the receiver has no room only in a buffer that is shorter than the longest report, which its program never lends
   pub room : (b : Box) (input buffer out : List ℕ) → reportMost ≤ length out
-      → called b (receiver input buffer out) .answer ≡ wrote (length (output buffer input))
+      → called b (receiver input buffer out) .answer ≡ printed (length (output buffer input))
