@@ -21,8 +21,8 @@ use Rattle.writes.specs.Write.{writeBy, outsideWrite, boxWrite}
 use Rattle.kmsg.specs.Read.{AfterRead, readRefused, readDone, readBy, reading, AfterSeek, seekRuling, seekBy, seeking}
 use Rattle.syslog.specs.Command.{commandBy, commanding}
 use Rattle.syslog.specs.declared.Asked.{Asked}
-use Rattle.history.specs.Calls.{Call, outside, box, make, place, read, seek, command, check, console, Reply, State, Stepped, stepped, nobody, withReaders, readerOf, ifThere, afterWrite, replyRead, replySeek, step}
-use Rattle.history.specs.Demand1.{Answers, Known, tellsOvertaken, lentBack, Kept, Demand1}
+use Rattle.history.specs.Calls.{outside, box, make, place, read, seek, command, check, console, State, Stepped, stepped, nobody, withReaders, readerOf, ifThere, afterWrite, replyRead, replySeek, step}
+use Rattle.history.specs.Demand1.{Answers, Known, tellsOvertaken, lentBack, Demand1}
 
 -- a count is not below 0
 never : {X : Type 0} (n k : ℕ) → pos n ≡ negsuc k → X

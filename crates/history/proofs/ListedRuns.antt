@@ -1,16 +1,15 @@
 -- Every call on any log over bytes is refused as the table lists; and every call in every run from a fresh log, in the words of the history.
 use mathlib.Core.Path.{_≡_, ap, sym, _∙_, subst}
-use mathlib.Core.Bool.{Bool, true, false, false≢true}
+use mathlib.Core.Bool.{false, false≢true}
 use mathlib.Core.List.{List}
 use Prim.Native.Nat.{ℕ}
 use lib.ListN.{length}
 use Rattle.log.specs.View.{View}
 use Rattle.log.specs.Check.{checked, viewOf}
-use Rattle.log.specs.declared.Verdict.{Verdict}
 use Rattle.log.specs.declared.Verdict.the-variants.{Fine}
 use Rattle.store.proofs.FineHolds.{fine-marked}
 use Rattle.history.specs.Calls.{Call, State}
-use Rattle.history.specs.Past.{Past, held, pastAfter, freshPast}
+use Rattle.history.specs.Past.{Past, held, freshPast}
 use Rattle.history.specs.Demand2.{fresh}
 use Rattle.history.specs.Listed.{Asking, Listed, answered, RefusedAsListed, RunsAsListed}
 use Rattle.history.proofs.SoundLaws.{Sound, sound-after, sound-fresh}

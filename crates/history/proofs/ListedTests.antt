@@ -6,18 +6,15 @@ use mathlib.Core.Bool.{Bool, true, false, cond, not, _&&_, _||_, true≢false, f
 use mathlib.Core.List.{List, [], _∷_}
 use native.Mathlib.Decide.{decLt}
 use native.Mathlib.Omega.{arith}
-use borrow.Author.Tests.{ltb-true, lt-ltb, leb-true, le-leb, lt-leb, eqb-true, eq-eqb, not-true}
-use lib.Dec.{leb, ltb, eqb}
+use borrow.Author.Tests.{ltb-true, lt-ltb, le-leb, lt-leb, eqb-true, eq-eqb, not-true}
+use lib.Dec.{ltb, eqb}
 use lib.IntN.{ℤ, pos, negsuc}
 use lib.ListN.{length}
-use Rattle.slices.specs.Listed.{In}
-use Rattle.slices.proofs.Bools.{and-left, and-right}
 use Rattle.slices.proofs.ReflectLaws.{Reflects, not-says, and-says, or-says, ltb-says, leb-says, eqb-says}
 use Rattle.record.specs.Limits.{payloadMost, facilityMost, levelMost}
 use Rattle.record.specs.Dictionary.{isDictionary}
 use Rattle.log.specs.Answer.{is, oneOf, isNegative, natural}
 use Rattle.log.specs.View.{View, nextOf}
-use Rattle.console.specs.Console.{isLevel}
 use Rattle.syslog.specs.Command.{copies, isKnown, isPermitted, wantsLevel}
 use Rattle.syslog.specs.declared.Asked.{Asked}
 use Rattle.syslog.proofs.RefusalLaws.{known-is}

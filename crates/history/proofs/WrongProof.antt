@@ -1,27 +1,25 @@
 -- Each of the wrong logs answers one call otherwise than the table lists, on a log that holds nothing.
-use Prim.Native.Nat.{ℕ, _+_, _-_, _<_}
+use Prim.Native.Nat.{ℕ, _-_, _<_}
 use mathlib.Core.Path.{_≡_, refl, ap, sym, _∙_}
 use mathlib.Core.Logic.{inl, inr}
 use mathlib.Core.Bool.{true, false}
-use mathlib.Core.List.{List, [], _∷_}
+use mathlib.Core.List.{List, []}
 use native.Mathlib.Omega.{arith}
-use lib.IntN.{ℤ, pos, negsuc}
+use lib.IntN.{pos, negsuc}
 use lib.ListN.{length, replicate}
 use Rattle.slices.specs.Tests.{allBytes}
-use Rattle.slices.specs.Listed.{Earlier, In}
+use Rattle.slices.specs.Listed.{Earlier}
 use Rattle.record.specs.Limits.{payloadMost, wordMost}
 use Rattle.ring.specs.Ring.{unrolled}
 use Rattle.log.specs.Answer.{refusalNumber, Ruling, allowed, refused, natural}
 use Rattle.log.specs.View.{View, nextOf}
 use Rattle.log.specs.Check.{checked, viewOf, marksOf, recordsIn, ruled}
-use Rattle.log.specs.declared.Log.{Log}
 use Rattle.log.specs.declared.Verdict.the-variants.{Fine}
 use Rattle.log.specs.declared.Refusal.{Refusal}
 use Rattle.log.specs.declared.Refusal.the-variants.{EBADFD, EPERM, ESPIPE, EINVAL, EFAULT, EOVERFLOW, EPIPE, EAGAIN}
-use Rattle.store.proofs.HoldsLaws.{Holds}
-use Rattle.store.proofs.MarkLaws.{Marked, fine}
-use Rattle.writes.specs.Write.{outsideRuling, writeBy, outsideWrite}
-use Rattle.syslog.specs.Command.{commandRuling, count, commandBy, commanding}
+use Rattle.store.proofs.MarkLaws.{fine}
+use Rattle.writes.specs.Write.{outsideRuling, outsideWrite}
+use Rattle.syslog.specs.Command.{commandRuling, count, commanding}
 use Rattle.syslog.specs.declared.Asked.{Asked}
 use Rattle.history.specs.Calls.{Call, outside, box, make, place, read, seek, command, check, console, State, step}
 use Rattle.history.specs.Listed.{Open, Applies, check-fails, without-privilege, over-960, outside-at-last, table, Listed, AsListed, answered}

@@ -7,7 +7,7 @@ use native.Mathlib.Nat.{add-zero, zero-add}
 use native.Mathlib.Omega.{arith}
 use borrow.Author.Tests.{leb-true}
 use lib.Dec.{leb}
-use lib.ListN.{length, getD, drop}
+use lib.ListN.{length, getD}
 use Rattle.slices.specs.Tests.{every}
 use Rattle.slices.proofs.Bools.{and-left, and-right, every-first, every-other}
 use Rattle.record.specs.Limits.{wordMost}

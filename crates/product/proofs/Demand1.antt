@@ -1,5 +1,5 @@
 -- Demand 1 over every call of the product: the log's part is the history's, and the rest is a case on what each definition tests.
-use Prim.Native.Nat.{ℕ, zero, suc, _≤_}
+use Prim.Native.Nat.{ℕ, _≤_}
 use mathlib.Core.Path.{_≡_, refl, ap, ap₂, sym, _∙_}
 use mathlib.Core.Logic.{inl, inr}
 use mathlib.Core.Bool.{Bool, true, false, cond, not}
@@ -26,11 +26,10 @@ use Rattle.feed.specs.Feed.{inputMost, output, bufferAfter}
 use Rattle.feed.specs.Longest.{reportMost}
 use Rattle.feed.proofs.LongestLaws.{longest-report}
 use Rattle.history.specs.Calls.{Reply, wrote, made, set, gave, sought, told, verdict, shown, nobody, step}
-use Rattle.history.specs.Calls.{Call as LogCall, State as LogState}
 use Rattle.history.specs.Demand1.{Answers}
 use Rattle.history.specs.Demand1.{Known as InTable}
 use Rattle.history.proofs.Demand1.{demand-1}
-use Rattle.product.specs.Calls.{Box, Call, onLog, turnOff, turnOn, setLevel, line, delivery, receiver, Answer, number, byReader, byBoard, printed, noRoom, other, replied, placedAt, withLog, withConsole, called, handed}
+use Rattle.product.specs.Calls.{Box, Call, onLog, turnOff, turnOn, setLevel, line, delivery, receiver, number, byReader, byBoard, printed, replied, placedAt, withLog, withConsole, called, handed}
 use Rattle.product.specs.Demand1.{Known, Refuses, left, Demand1}
 
 -- ---- the log
