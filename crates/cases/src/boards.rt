@@ -9,7 +9,7 @@ use record::Seq;
 fn showing(length: usize) -> Board {
     let fresh = Board::new();
     let mut slots = fresh.slots;
-    slots[Board::SLOTS - 1] = Slot {
+    slots[7] = Slot {
         shown: Shown::Record(Seq(9)),
         size: length,
     };
@@ -29,7 +29,7 @@ fn shows(slot: Slot, number: u64, length: usize) -> bool {
 // Channel 16 shows nothing still, and channel 23 what it did.
 fn kept(board: Board, length: usize) -> bool {
     let slots = board.slots;
-    shows(slots[0], 0, 0) & shows(slots[Board::SLOTS - 1], 9, length)
+    shows(slots[0], 0, 0) & shows(slots[7], 9, length)
 }
 
 // T14's message, for channel 16, delivered to such a board.
@@ -46,8 +46,8 @@ fn deliver(buffer: &mut [u8], length: usize) {
 }
 
 pub fn all() {
-    deliver(&mut [165u8; Board::BUFFER], Board::TEXT);
-    deliver(&mut [165u8; Board::BUFFER - 1], Board::TEXT);
-    deliver(&mut [165u8; Board::BUFFER + 1], Board::TEXT);
-    deliver(&mut [165u8; Board::BUFFER], Board::TEXT + 1);
+    deliver(&mut [165u8; 7680], 960);
+    deliver(&mut [165u8; 7679], 960);
+    deliver(&mut [165u8; 7681], 960);
+    deliver(&mut [165u8; 7680], 961);
 }

@@ -1,7 +1,5 @@
 // The line reader: "result buffer under 960 bytes, numbers block not 48".
 use crate::say;
-use message::Shape;
-use record::Heading;
 
 // T14's message, read into what is lent.
 fn read(result: &mut [u8], numbers: &mut [u8]) {
@@ -12,17 +10,8 @@ fn read(result: &mut [u8], numbers: &mut [u8]) {
 }
 
 pub fn all() {
-    read(&mut [165u8; Heading::PAYLOAD], &mut [165u8; Shape::BLOCK]);
-    read(
-        &mut [165u8; Heading::PAYLOAD - 1],
-        &mut [165u8; Shape::BLOCK],
-    );
-    read(
-        &mut [165u8; Heading::PAYLOAD],
-        &mut [165u8; Shape::BLOCK - 1],
-    );
-    read(
-        &mut [165u8; Heading::PAYLOAD],
-        &mut [165u8; Shape::BLOCK + 1],
-    );
+    read(&mut [165u8; 960], &mut [165u8; 48]);
+    read(&mut [165u8; 959], &mut [165u8; 48]);
+    read(&mut [165u8; 960], &mut [165u8; 47]);
+    read(&mut [165u8; 960], &mut [165u8; 49]);
 }

@@ -1,5 +1,4 @@
 // What a call was lent and what it did, in a line.
-use board::Board;
 use libc::STDOUT_FILENO;
 
 fn text(s: &[u8]) {
@@ -14,10 +13,7 @@ pub fn named(name: &[u8], n: usize) {
 
 // A buffer is lent with each byte 165, and all of them are 165 still.
 pub fn stayed(bytes: &[u8]) -> bool {
-    check::same(
-        bytes,
-        slices::front(&[165u8; Board::BUFFER + 1], bytes.len()),
-    )
+    check::same(bytes, slices::front(&[165u8; 7681], bytes.len()))
 }
 
 // A call's answer, and whether all that was lent or handed in is as it was.
