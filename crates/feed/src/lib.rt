@@ -15,13 +15,6 @@ ghost use Rattle.feed.specs.Feed.{messages, messageLength, fed, countRef
 ghost use Rattle.feed.specs.Printing.{measured, field, shownLine, refusedLine};
 ghost use Rattle.feed.specs.Kept.{restored, settled};
 
-// The longest input of the receiver program.
-pub const INPUT: usize = 65536;
-
-// Bytes that have room for any report: a line of 2 digits, a space, 20 digits, a space, a full slot with every byte escaped and
-// a newline for each channel, and the last line's 8 bytes, 20 digits and a newline.
-pub const REPORT: usize = Board::SLOTS * (2 + 1 + 20 + 1 + 4 * Board::TEXT + 1) + 8 + 20 + 1;
-
 // The channel of the first slot.
 const FIRST: usize = Board::FIRST as usize;
 
@@ -29,6 +22,14 @@ const FIRST: usize = Board::FIRST as usize;
 pub struct Received {
     pub board: Board,
     pub refused: u64,
+}
+
+impl Received {
+    // The longest input of the receiver program.
+    pub const INPUT: usize = 65536;
+    // Bytes that have room for any report: a line of 2 digits, a space, 20 digits, a space, a full slot with every byte escaped
+    // and a newline for each channel, and the last line's 8 bytes, 20 digits and a newline.
+    pub const REPORT: usize = Board::SLOTS * (2 + 1 + 20 + 1 + 4 * Board::TEXT + 1) + 8 + 20 + 1;
 }
 
 // The length of the first message of a feed: 0 of an empty one. A line that begins with a space goes on with the message before it.
@@ -223,12 +224,13 @@ fn print_or_restore(r: Received, kept: &[u8], buffer: &mut [u8], out: &mut [u8])
     }
 }
 
-// The receiver program: what is written for this input, put into a buffer if there is room. Without room all is as it was.
+// The receiver program: what is written for this input, put into a buffer if there is room. Without room all is as it was: for
+// that the board's buffer, 7,680 bytes, is kept on the stack while it is fed.
 pub fn run(input: &[u8], buffer: &mut [u8], out: &mut [u8]) -> Placed
     ensures { λ r. ⌜ left r (now (out .exit)) ≡ placed (now (out .entry)) 0 (output (now (buffer .entry)) (now (input .entry))) ⌝ }
     ensures { λ r. ⌜ now (buffer .exit) ≡ bufferAfter (now (buffer .entry)) (now (input .entry)) (length (now (out .entry))) ⌝ }
 {
-    if INPUT < input.len() {
+    if Received::INPUT < input.len() {
         return slices::copy(b"input too long\n", out, 0);
     }
     let mut kept = [0u8; Board::BUFFER];

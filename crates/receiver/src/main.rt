@@ -1,5 +1,6 @@
 // The receiver program (document 01, "The receiving end"): standard input fed to a board, and what the board then shows.
 use board::Board;
+use feed::Received;
 use libc::STDIN_FILENO;
 use libc::STDOUT_FILENO;
 use slices::Placed;
@@ -22,10 +23,10 @@ fn answer(input: &[u8], buffer: &mut [u8], out: &mut [u8]) -> usize
 
 fn main() {
     // One byte more than is taken, to see an input that is too long.
-    let mut input = [0u8; feed::INPUT + 1];
+    let mut input = [0u8; Received::INPUT + 1];
     let n = io::read_full(STDIN_FILENO, &mut input);
     let mut buffer = [0u8; Board::BUFFER];
-    let mut out = [0u8; feed::REPORT];
+    let mut out = [0u8; Received::REPORT];
     let end = answer(slices::front(&input, n), &mut buffer, &mut out);
     io::write_all(STDOUT_FILENO, slices::front(&out, end));
 }
