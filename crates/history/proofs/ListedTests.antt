@@ -12,7 +12,8 @@ use lib.IntN.{ℤ, pos, negsuc}
 use lib.ListN.{length}
 use Rattle.slices.proofs.ReflectLaws.{Reflects, not-says, and-says, or-says, ltb-says, leb-says, eqb-says}
 use Rattle.record.specs.Limits.{payloadMost, facilityMost, levelMost}
-use Rattle.record.specs.Dictionary.{isDictionary}
+use Rattle.record.specs.Dictionary.{isDictionary, Dictionary}
+use Rattle.record.proofs.DictionaryLaws.{dictionary-says}
 use Rattle.log.specs.Answer.{is, oneOf, isNegative, natural}
 use Rattle.log.specs.View.{View, nextOf}
 use Rattle.syslog.specs.Command.{copies, isKnown, isPermitted, wantsLevel}
@@ -158,7 +159,7 @@ level-says z = record { says = says; told = told z }
 abbrev pub WrongBox : ℕ → ℕ → List ℕ → List ℕ → Type 0
 WrongBox facility level text dictionary =
     (facilityMost < facility)
-    ⊎ ((levelMost < level) ⊎ ((payloadMost < length text + length dictionary) ⊎ (isDictionary dictionary ≡ true → ⊥)))
+    ⊎ ((levelMost < level) ⊎ ((payloadMost < length text + length dictionary) ⊎ (Dictionary dictionary → ⊥)))
 
 pub box-says : (facility level : ℕ) (text dictionary : List ℕ)
     → Reflects (ltb facilityMost facility || (ltb levelMost level || (ltb payloadMost (length text + length dictionary) || not (isDictionary dictionary))))
@@ -166,7 +167,7 @@ pub box-says : (facility level : ℕ) (text dictionary : List ℕ)
 box-says facility level text dictionary =
     or-says (ltb-says facilityMost facility)
     (or-says (ltb-says levelMost level)
-    (or-says (ltb-says payloadMost (length text + length dictionary)) (not-says (holds-says (isDictionary dictionary)))))
+    (or-says (ltb-says payloadMost (length text + length dictionary)) (not-says (dictionary-says dictionary))))
 
 abbrev pub WrongCommand : Asked → Type 0
 WrongCommand a =

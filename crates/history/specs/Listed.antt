@@ -11,7 +11,7 @@ use lib.ListN.{length, getD}
 use Rattle.slices.specs.Tests.{allBytes}
 use Rattle.slices.specs.Listed.{Exactly}
 use Rattle.record.specs.Limits.{capacityLeast, capacityMost}
-use Rattle.record.specs.Dictionary.{isDictionary}
+use Rattle.record.specs.Dictionary.{Dictionary}
 use Rattle.record.specs.Forms.{kmsgLine}
 use Rattle.log.specs.View.{View, nextOf, recordAt}
 use Rattle.log.specs.Check.{checked, viewOf}
@@ -64,7 +64,7 @@ pub data Applies (fails : Type 0) (v : View) (readers : List ℕ) : Call → Ref
       → Applies fails v readers (box facility level time text dictionary) EINVAL
   bad-level : {facility level time : ℕ} {text dictionary : List ℕ} → 7 < level
       → Applies fails v readers (box facility level time text dictionary) EINVAL
-  bad-dictionary : {facility level time : ℕ} {text dictionary : List ℕ} → (isDictionary dictionary ≡ true → ⊥)
+  bad-dictionary : {facility level time : ℕ} {text dictionary : List ℕ} → (Dictionary dictionary → ⊥)
       → Applies fails v readers (box facility level time text dictionary) EINVAL
   -- line longer than reader's buffer
   line-longer : {i : ℕ} {lent : List ℕ} → length lent < length (kmsgLine (recordAt v (getD readers i 0)))
