@@ -25,7 +25,7 @@ use Rattle.history.specs.Calls.{outside, box, make, place, read, seek, c
 use Rattle.history.specs.Demand1.{Answers, Known, tellsOvertaken, lentBack, Demand1}
 
 -- a count is not below 0
-never : {X : Type 0} (n k : ℕ) → pos n ≡ negsuc k → X
+pub never : {X : Type 0} (n k : ℕ) → pos n ≡ negsuc k → X
 never n k e =
     let z : _≡_ {A = ℕ} 0 1 = cc in
     absurd (omega arith)

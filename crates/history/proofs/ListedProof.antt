@@ -33,8 +33,8 @@ use Rattle.syslog.specs.Command.{copies, isKnown, isPermitted, wantsLevel, unre
 use Rattle.syslog.proofs.UnreadLaws.{nothing-unread as nothing-unread-law}
 use Rattle.syslog.specs.declared.Asked.{Asked}
 use Rattle.history.specs.Calls.{Call, outside, box, make, place, read, seek, command, check, console, State, Stepped, readerOf, ifThere, step}
-use Rattle.history.specs.Demand1.{Answers}
-use Rattle.history.specs.Listed.{Applies, check-fails, above-next, without-privilege, offset-not-0, other-whence, unknown-type, len-below-0, level-outside, over-960, over-960-together, bad-facility, bad-level, bad-dictionary, line-longer, above-lent, outside-at-last, box-at-last, below-first, at-next, nothing-unread, tableNumber, table, readTable, order, Asking, IsCount, Listed, answered}
+use Rattle.history.specs.Demand1.{Answers, table, tableNumber}
+use Rattle.history.specs.Listed.{Applies, check-fails, above-next, without-privilege, offset-not-0, other-whence, unknown-type, len-below-0, level-outside, over-960, over-960-together, bad-facility, bad-level, bad-dictionary, line-longer, above-lent, outside-at-last, box-at-last, below-first, at-next, nothing-unread, readTable, order, Asking, IsCount, Listed, answered}
 use Rattle.history.proofs.ListedTests.{is-says, barred-says, box-says, command-says, nothing, unread-says, lent-says, whence-says}
 
 -- ---- a test for each row

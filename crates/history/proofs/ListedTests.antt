@@ -20,6 +20,7 @@ use Rattle.syslog.specs.Command.{copies, isKnown, isPermitted, wantsLevel}
 use Rattle.syslog.specs.declared.Asked.{Asked}
 use Rattle.syslog.proofs.RefusalLaws.{known-is}
 use Rattle.history.specs.Listed.{Copying, Open}
+use Rattle.history.proofs.Demand1.{never}
 
 -- said in other words
 pub same-says : {t : Bool} {P Q : Type 0} → Reflects t P → (P → Q) → (Q → P) → Reflects t Q
@@ -42,12 +43,7 @@ is-says (pos n) k = record { says = λ e. ap pos (eqb-true n k e); told = λ e. 
     same n k e =
         let f : n ≡ k = cc in
         eq-eqb n k f
-is-says (negsuc n) k = record { says = λ e. absurd (false≢true e); told = λ e. never n k e }
-  where
-    never : (n k : ℕ) → negsuc n ≡ pos k → is (negsuc n) k ≡ true
-    never n k e =
-        let z : _≡_ {A = ℕ} 0 1 = cc in
-        absurd (omega arith)
+is-says (negsuc n) k = record { says = λ e. absurd (false≢true e); told = λ e. never k n (sym e) }
 
 -- one of some
 abbrev pub OneOf : ℤ → List ℕ → Type 0
@@ -70,11 +66,6 @@ pub record Below (z : ℤ) : Type 0 where
 
 pub below-says : (z : ℤ) → Reflects (isNegative z) (Below z)
 below-says (pos n) = record { says = λ e. absurd (false≢true e); told = λ b. never n (b .size) (b .is) }
-  where
-    never : (n k : ℕ) → pos n ≡ negsuc k → isNegative (pos n) ≡ true
-    never n k e =
-        let z : _≡_ {A = ℕ} 0 1 = cc in
-        absurd (omega arith)
 below-says (negsuc n) = record { says = λ e. record { size = n; is = refl }; told = λ b. refl }
 
 -- above a number

@@ -5,7 +5,7 @@ use mathlib.Core.Logic.{inl, inr}
 use mathlib.Core.Bool.{true, false}
 use mathlib.Core.List.{List, []}
 use native.Mathlib.Omega.{arith}
-use lib.IntN.{pos, negsuc}
+use lib.IntN.{pos}
 use lib.ListN.{length, replicate}
 use Rattle.slices.specs.Tests.{allBytes}
 use Rattle.slices.specs.Listed.{Earlier}
@@ -22,8 +22,10 @@ use Rattle.writes.specs.Write.{outsideRuling, outsideWrite}
 use Rattle.syslog.specs.Command.{commandRuling, count, commanding}
 use Rattle.syslog.specs.declared.Asked.{Asked}
 use Rattle.history.specs.Calls.{Call, outside, box, make, place, read, seek, command, check, console, State, step}
-use Rattle.history.specs.Listed.{Open, Applies, check-fails, without-privilege, over-960, outside-at-last, table, Listed, AsListed, answered}
+use Rattle.history.specs.Demand1.{table}
+use Rattle.history.specs.Listed.{Open, Applies, check-fails, without-privilege, over-960, outside-at-last, Listed, AsListed, answered}
 use Rattle.history.specs.Wrong.{ruledBy, refuseAll, overflowFirst, oneByteMore, invalidFirst, WrongRefused}
+use Rattle.history.proofs.Demand1.{never}
 use Rattle.history.proofs.ListedProof.{numberBy, rows-apart, by-check, write-number, command-number}
 
 -- a log that holds nothing, with n its next number
@@ -74,12 +76,7 @@ bytes-of : (n : ℕ) → allBytes (empty n .buffer) ≡ true
 unfolding empty
 bytes-of n = refl
 
--- a count is not below 0, and numbers that differ stay so
-never : (n k : ℕ) → pos n ≡ negsuc k → ⊥
-never n k e =
-    let z : _≡_ {A = ℕ} 0 1 = cc in
-    omega arith
-
+-- numbers that differ stay so
 other : (n k : ℕ) → pos n ≡ pos k → (n ≡ k → ⊥) → ⊥
 other n k e h =
     let z : n ≡ k = cc in

@@ -4,11 +4,13 @@
 use Prim.Native.Nat.{ℕ}
 use mathlib.Core.Path.{_≡_}
 use mathlib.Core.Bool.{Bool, false, cond}
-use mathlib.Core.List.{List, [], _∷_}
+use mathlib.Core.List.{List, [], _∷_, map}
 use lib.Dec.{eqb}
 use lib.IntN.{ℤ, pos, negsuc}
 use lib.ListN
 use Rattle.slices.specs.Listed.{In}
+use Rattle.log.specs.declared.Refusal.{Refusal}
+use Rattle.log.specs.declared.Refusal.the-variants.{EBADFD, EPERM, ESPIPE, EINVAL, EFAULT, EOVERFLOW, EPIPE, EAGAIN}
 use Rattle.history.specs.Calls.{Call, outside, box, make, place, read, seek, command, check, console, Reply, wrote, made, set, gave, sought, told, verdict, shown, nobody, State, withReaders, step}
 
 -- the reply answers this number; a call that only makes a reader, sets one, checks the log or asks the console question answers none
@@ -23,14 +25,25 @@ Answers (verdict x) n = ⊥
 Answers (shown b) n = ⊥
 Answers nobody n = ⊥
 
--- document 01's table "When the log says no": -77, -1, -29, -22, -14, -75, -32, -11 (negsuc n is -(n + 1))
-abbrev pub tableNumbers : List ℤ
-tableNumbers = negsuc 76 ∷ negsuc 0 ∷ negsuc 28 ∷ negsuc 21 ∷ negsuc 13 ∷ negsuc 74 ∷ negsuc 31 ∷ negsuc 10 ∷ []
+-- document 01's table "When the log says no", in its order
+abbrev pub table : List Refusal
+table = EBADFD ∷ EPERM ∷ ESPIPE ∷ EINVAL ∷ EFAULT ∷ EOVERFLOW ∷ EPIPE ∷ EAGAIN ∷ []
+
+-- its numbers: -77, -1, -29, -22, -14, -75, -32, -11 (negsuc n is -(n + 1))
+abbrev pub tableNumber : Refusal → ℤ
+tableNumber EBADFD = negsuc 76
+tableNumber EPERM = negsuc 0
+tableNumber ESPIPE = negsuc 28
+tableNumber EINVAL = negsuc 21
+tableNumber EFAULT = negsuc 13
+tableNumber EOVERFLOW = negsuc 74
+tableNumber EPIPE = negsuc 31
+tableNumber EAGAIN = negsuc 10
 
 -- a count, or a number of the table
 abbrev pub Known : ℤ → Type 0
 Known (pos n) = Unit {0}
-Known (negsuc n) = In (negsuc n) tableNumbers
+Known (negsuc n) = In (negsuc n) (map tableNumber table)
 
 -- -32
 abbrev pub tellsOvertaken : ℤ → Bool

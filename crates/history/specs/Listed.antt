@@ -21,7 +21,7 @@ use Rattle.log.specs.declared.Refusal.the-variants.{EBADFD, EPERM, ESPIPE, EINV
 use Rattle.syslog.specs.declared.Asked.{Asked}
 use Rattle.history.specs.Calls.{Call, outside, box, make, place, read, seek, command, check, console, Reply, State, step, stateAfter}
 use Rattle.history.specs.Past.{held, pastAfter, freshPast}
-use Rattle.history.specs.Demand1.{Answers}
+use Rattle.history.specs.Demand1.{Answers, table, tableNumber}
 use Rattle.history.specs.Demand2.{fresh, AllTimed}
 
 -- ---- the rows
@@ -84,21 +84,7 @@ pub data Applies (fails : Type 0) (v : View) (readers : List ℕ) : Call → Ref
   nothing-unread : {a : Asked} {lent : List ℕ} {n : ℕ} → a .command ≡ pos 2 → a .len ≡ pos n → 0 < n
       → (v .marks .position ≡ nextOf v) ⊎ (length (v .records) ≡ 0) → Applies fails v readers (command a lent) EAGAIN
 
--- ---- their numbers and their order
-
--- negsuc n is -(n + 1)
-abbrev pub tableNumber : Refusal → ℤ
-tableNumber EBADFD = negsuc 76
-tableNumber EPERM = negsuc 0
-tableNumber ESPIPE = negsuc 28
-tableNumber EINVAL = negsuc 21
-tableNumber EFAULT = negsuc 13
-tableNumber EOVERFLOW = negsuc 74
-tableNumber EPIPE = negsuc 31
-tableNumber EAGAIN = negsuc 10
-
-abbrev pub table : List Refusal
-table = EBADFD ∷ EPERM ∷ ESPIPE ∷ EINVAL ∷ EFAULT ∷ EOVERFLOW ∷ EPIPE ∷ EAGAIN ∷ []
+-- ---- their order
 
 -- as listed, but a read tries -32, -11, then -22
 abbrev pub readTable : List Refusal

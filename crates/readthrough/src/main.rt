@@ -18,9 +18,6 @@ const RECORDS: u64 = 2731;
 
 const TIMES_MOST: u64 = 1000000;
 
-// The longest line.
-const LINE: usize = 3887;
-
 // What every record has.
 const FACILITY: u64 = 16;
 
@@ -113,7 +110,7 @@ fn run(bytes: usize, times: u64) {
     letters(&mut text);
     let mut buffer = [0u8; Log::CAPACITY_MOST];
     let log = fill(&mut buffer, slices::front(&text, bytes));
-    let mut lent = [0u8; LINE];
+    let mut lent = [0u8; Heading::LINE_MOST];
     let tally = read_often(log, &buffer, &mut lent, times);
     tally.print();
 }
