@@ -1,11 +1,13 @@
 -- A test of every element holds in each part of a list, and follows from the test at each place.
 use Prim.Native.Nat.{ℕ, zero, suc, _<_}
-use mathlib.Core.Path.{_≡_, refl}
-use mathlib.Core.Bool.{Bool, true}
+use mathlib.Core.Path.{_≡_, refl, sym, _∙_}
+use mathlib.Core.Bool.{Bool, true, false, not, _&&_, _||_}
 use mathlib.Core.List.{List, [], _∷_, _++_}
 use native.Mathlib.Omega.{arith}
-use borrow.Author.Tests.{lt-ltb}
+use borrow.Author.Tests.{lt-ltb, not-true}
+use lib.Dec.{eqb}
 use lib.ListN.{length, getD, take, drop}
+use Rattle.slices.specs.Cut.{has}
 use Rattle.slices.specs.Tests.{every, isByte, allBytes}
 use Rattle.slices.proofs.Bools.{every-first, every-other, every-append}
 
@@ -30,3 +32,18 @@ module _ {A : Type 0} (p : A → Bool) where
 -- what a slice of bytes tells of its elements
 pub all-bytes : (xs : List ℕ) → ((i : ℕ) → getD xs i 0 < 256) → allBytes xs ≡ true
 all-bytes xs h = every-at isByte 0 xs (λ i l. lt-ltb (getD xs i 0) 256 (h i))
+
+-- c is not among them: every one is another byte
+lacks-is : (c : ℕ) (xs : List ℕ) → every (λ x. not (eqb x c)) xs ≡ not (has c xs)
+lacks-is c [] = refl
+lacks-is c (x ∷ xs) = go (eqb x c) (lacks-is c xs)
+  where
+    go : (t : Bool) → every (λ x. not (eqb x c)) xs ≡ not (has c xs) → not t && every (λ x. not (eqb x c)) xs ≡ not (t || has c xs)
+    go true h = refl
+    go false h = h
+
+pub lacks-every : (c : ℕ) (xs : List ℕ) → has c xs ≡ false → every (λ x. not (eqb x c)) xs ≡ true
+lacks-every c xs e = lacks-is c xs ∙ rw e
+
+pub every-lacks : (c : ℕ) (xs : List ℕ) → every (λ x. not (eqb x c)) xs ≡ true → has c xs ≡ false
+every-lacks c xs e = not-true (has c xs) (sym (lacks-is c xs) ∙ e)

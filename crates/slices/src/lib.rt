@@ -3,7 +3,7 @@ ghost use mathlib.Core.Path.{_≡_};
 ghost use Prim.Native.Nat.{suc, _+_};
 ghost use lib.Dec.{leb};
 ghost use lib.ListN.{length, take, drop};
-ghost use Rattle.slices.specs.Cut.{before, place};
+ghost use Rattle.slices.specs.Cut.{has, before, place};
 ghost use Rattle.slices.specs.Put.{left, placed};
 
 // Where a byte stands first.
@@ -41,6 +41,20 @@ pub fn find(s: &[u8], c: u8) -> Found
     } else {
         Found::Nowhere
     }
+}
+
+// A zero byte is among them. The least byte tells: its loop has no branch for a byte, so that the compiler makes it one that takes many at a time.
+pub fn has_zero(s: &[u8]) -> bool
+    ensures { λ r. ⌜ r ≡ has 0 (now (s .entry)) ⌝ }
+{
+    let mut least: u8 = 255;
+    let mut at = 0;
+    while at < s.len() {
+        let b = s[at];
+        least = if b < least { b } else { least };
+        at += 1;
+    }
+    least == 0
 }
 
 // The first n bytes: all, if there are fewer.
