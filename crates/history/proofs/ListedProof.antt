@@ -8,6 +8,7 @@ use borrow.Author.Tests.{ltb-true, lt-ltb, eqb-true, eq-eqb}
 use lib.Dec.{ltb, eqb}
 use lib.IntN.{ℤ, pos, negsuc}
 use lib.ListN.{length, getD}
+use Rattle.slices.specs.Cut.{has}
 use Rattle.slices.specs.Tests.{firstOf}
 use Rattle.slices.specs.Listed.{Exactly}
 use Rattle.slices.proofs.Bools.{and-assoc}
@@ -34,8 +35,8 @@ use Rattle.syslog.proofs.UnreadLaws.{nothing-unread as nothing-unread-law}
 use Rattle.syslog.specs.declared.Asked.{Asked}
 use Rattle.history.specs.Calls.{Call, outside, box, make, place, read, seek, command, check, console, State, Stepped, readerOf, ifThere, step}
 use Rattle.history.specs.Demand1.{Answers, table, tableNumber}
-use Rattle.history.specs.Listed.{Applies, check-fails, above-next, without-privilege, offset-not-0, other-whence, unknown-type, len-below-0, level-outside, over-960, over-960-together, bad-facility, bad-level, bad-dictionary, line-longer, above-lent, outside-at-last, box-at-last, below-first, at-next, nothing-unread, readTable, order, Asking, IsCount, Listed, answered}
-use Rattle.history.proofs.ListedTests.{is-says, barred-says, box-says, command-says, nothing, unread-says, lent-says, whence-says}
+use Rattle.history.specs.Listed.{Applies, check-fails, above-next, without-privilege, offset-not-0, other-whence, unknown-type, len-below-0, level-outside, over-960, over-960-together, zero-byte, bad-facility, bad-level, bad-dictionary, line-longer, above-lent, outside-at-last, box-at-last, below-first, at-next, nothing-unread, readTable, order, Asking, IsCount, Listed, answered}
+use Rattle.history.proofs.ListedTests.{is-says, barred-says, outside-says, box-says, command-says, nothing, unread-says, lent-says, whence-says}
 
 -- ---- a test for each row
 
@@ -70,7 +71,8 @@ abbrev reader : List ℕ → ℕ → ℕ
 reader readers i = getD readers i 0
 
 abbrev test : Bool → View → List ℕ → Call → Refusal → Bool
-test bad v readers (outside time bytes) = row bad false false (ltb payloadMost (length bytes)) false (eqb (nextOf v) wordMost) false false
+test bad v readers (outside time bytes) =
+    row bad false false (ltb payloadMost (length bytes) || has 0 bytes) false (eqb (nextOf v) wordMost) false false
 test bad v readers (box facility level time text dictionary) =
     row bad false false
     (ltb facilityMost facility || (ltb levelMost level || (ltb payloadMost (length text + length dictionary) || not (isDictionary dictionary))))
@@ -110,7 +112,8 @@ module _ (failing : Type 0) (bad : Bool) (bs : bad ≡ true → failing) (bc : f
 
   sound : (c : Call) (r : Refusal) → test bad v readers c r ≡ true → Row c r
   sound (outside time bytes) r q =
-      by-row (Row (outside time bytes)) (λ e. check-fails (bs e)) never never (λ e. over-960 (ltb-true payloadMost (length bytes) e)) never
+      by-row (Row (outside time bytes)) (λ e. check-fails (bs e)) never never
+      (λ e. elim (outside-says bytes .says e) [ inl h ↦ over-960 h | inr h ↦ zero-byte h ]) never
       (λ e. outside-at-last (eqb-true (nextOf v) wordMost e)) never never r q
   sound (box facility level time text dictionary) r q =
       by-row (Row (box facility level time text dictionary)) (λ e. check-fails (bs e)) never never
@@ -167,7 +170,8 @@ module _ (failing : Type 0) (bad : Bool) (bs : bad ≡ true → failing) (bc : f
   complete c r (unknown-type {a} {lent} h) = command-says a .told (inl h)
   complete c r (len-below-0 {a} {lent} {n} k z) = command-says a .told (inr (inl (k, record { size = n; is = z })))
   complete c r (level-outside {a} {lent} t h) = command-says a .told (inr (inr (t, h)))
-  complete c r (over-960 {time} {bytes} h) = lt-ltb payloadMost (length bytes) h
+  complete c r (over-960 {time} {bytes} h) = outside-says bytes .told (inl h)
+  complete c r (zero-byte {time} {bytes} h) = outside-says bytes .told (inr h)
   complete c r (over-960-together {facility} {level} {time} {text} {dictionary} h) = box-says facility level text dictionary .told (inr (inr (inl h)))
   complete c r (bad-facility {facility} {level} {time} {text} {dictionary} h) = box-says facility level text dictionary .told (inl h)
   complete c r (bad-level {facility} {level} {time} {text} {dictionary} h) = box-says facility level text dictionary .told (inr (inl h))
@@ -194,12 +198,14 @@ checkedFirst false q = q
 abbrev firstRow : List Refusal → (Refusal → Bool) → ℤ → ℤ
 firstRow rows t done = firstOf (map (λ (r : Refusal). (t r, tableNumber r)) rows) done
 
-first-outside : (bad t u : Bool) (done : ℤ)
-    → numberBy done (checkedFirst bad (rulingOf ((t, EINVAL) ∷ (u, EOVERFLOW) ∷ []))) ≡ firstRow table (row bad false false t false u false false) done
-first-outside true t u done = refl
-first-outside false true u done = refl
-first-outside false false true done = refl
-first-outside false false false done = refl
+first-outside : (bad a b u : Bool) (done : ℤ)
+    → numberBy done (checkedFirst bad (rulingOf ((a, EINVAL) ∷ (b, EINVAL) ∷ (u, EOVERFLOW) ∷ [])))
+    ≡ firstRow table (row bad false false (a || b) false u false false) done
+first-outside true a b u done = refl
+first-outside false true b u done = refl
+first-outside false false true u done = refl
+first-outside false false false true done = refl
+first-outside false false false false done = refl
 
 first-box : (bad a b c d u : Bool) (done : ℤ)
     → numberBy done (checkedFirst bad (rulingOf ((a, EINVAL) ∷ (b, EINVAL) ∷ (c, EINVAL) ∷ (d, EINVAL) ∷ (u, EOVERFLOW) ∷ [])))
@@ -368,7 +374,7 @@ module _ (s : State) (failing : Type 0) (bs : isBad (checked (s .log) (s .buffer
             exact (outside time bytes) (length bytes) _
             (write-number (s .log) (s .buffer) _ (length bytes) _
             ∙ ruled-number (λ v. outsideRuling v bytes) (pos (length bytes))
-            ∙ first-outside wrong (ltb payloadMost (length bytes)) (eqb (nextOf view) wordMost) (pos (length bytes)));
+            ∙ first-outside wrong (ltb payloadMost (length bytes)) (has 0 bytes) (eqb (nextOf view) wordMost) (pos (length bytes)));
       }
   listed (box facility level time text dictionary) h =
       let k = length text + length dictionary in

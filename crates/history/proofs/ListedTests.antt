@@ -10,7 +10,9 @@ use borrow.Author.Tests.{ltb-true, lt-ltb, le-leb, lt-leb, eqb-true, eq-eqb, not
 use lib.Dec.{ltb, eqb}
 use lib.IntN.{ℤ, pos, negsuc}
 use lib.ListN.{length}
-use Rattle.slices.proofs.ReflectLaws.{Reflects, not-says, and-says, or-says, ltb-says, leb-says, eqb-says}
+use Rattle.slices.specs.Cut.{has}
+use Rattle.slices.specs.Listed.{In}
+use Rattle.slices.proofs.ReflectLaws.{Reflects, not-says, and-says, or-says, ltb-says, leb-says, eqb-says, has-says}
 use Rattle.record.specs.Limits.{payloadMost, facilityMost, levelMost}
 use Rattle.record.specs.Dictionary.{isDictionary, Dictionary}
 use Rattle.record.proofs.DictionaryLaws.{dictionary-says}
@@ -146,6 +148,9 @@ level-says z = record { says = says; told = told z }
     told (negsuc n) h = refl
 
 -- ---- the rows that have more than one phrase, or more than one part
+
+pub outside-says : (bytes : List ℕ) → Reflects (ltb payloadMost (length bytes) || has 0 bytes) ((payloadMost < length bytes) ⊎ In 0 bytes)
+outside-says bytes = or-says (ltb-says payloadMost (length bytes)) (has-says 0 bytes)
 
 abbrev pub WrongBox : ℕ → ℕ → List ℕ → List ℕ → Type 0
 WrongBox facility level text dictionary =

@@ -1,9 +1,9 @@
 -- Each of the wrong logs answers one call otherwise than the table lists, on a log that holds nothing.
-use Prim.Native.Nat.{ℕ, _-_, _<_}
+use Prim.Native.Nat.{ℕ, _+_, _-_, _<_}
 use mathlib.Core.Path.{_≡_, refl, ap, sym, _∙_}
 use mathlib.Core.Logic.{inl, inr}
 use mathlib.Core.Bool.{true, false}
-use mathlib.Core.List.{List, []}
+use mathlib.Core.List.{List, [], _∷_}
 use native.Mathlib.Omega.{arith}
 use lib.IntN.{pos}
 use lib.ListN.{length, replicate}
@@ -18,13 +18,13 @@ use Rattle.log.specs.declared.Verdict.the-variants.{Fine}
 use Rattle.log.specs.declared.Refusal.{Refusal}
 use Rattle.log.specs.declared.Refusal.the-variants.{EBADFD, EPERM, ESPIPE, EINVAL, EFAULT, EOVERFLOW, EPIPE, EAGAIN}
 use Rattle.store.proofs.MarkLaws.{fine}
-use Rattle.writes.specs.Write.{outsideRuling, outsideWrite}
+use Rattle.writes.specs.Write.{outsideRuling, boxRuling, outsideWrite, boxWrite}
 use Rattle.syslog.specs.Command.{commandRuling, count, commanding}
 use Rattle.syslog.specs.declared.Asked.{Asked}
 use Rattle.history.specs.Calls.{Call, outside, box, make, place, read, seek, command, check, console, State, step}
 use Rattle.history.specs.Demand1.{table}
-use Rattle.history.specs.Listed.{Open, Applies, check-fails, without-privilege, over-960, outside-at-last, Listed, AsListed, answered}
-use Rattle.history.specs.Wrong.{ruledBy, refuseAll, overflowFirst, oneByteMore, invalidFirst, WrongRefused}
+use Rattle.history.specs.Listed.{Open, Applies, check-fails, without-privilege, over-960, over-960-together, zero-byte, bad-facility, bad-level, bad-dictionary, outside-at-last, Listed, AsListed, answered}
+use Rattle.history.specs.Wrong.{ruledBy, refuseAll, overflowFirst, oneByteMore, zeroTaken, zeroFromBox, invalidFirst, WrongRefused}
 use Rattle.history.proofs.Demand1.{never}
 use Rattle.history.proofs.ListedProof.{numberBy, rows-apart, by-check, write-number, command-number}
 
@@ -82,10 +82,15 @@ other n k e h =
     let z : n ≡ k = cc in
     h z
 
-module _ (onWrite : View → List ℕ → Ruling) (onCommand : View → Asked → List ℕ → Ruling) (f : AsListed (ruledBy onWrite onCommand)) (n : ℕ) where
-  -- what a write and a command answer there
+module _ (onWrite : View → List ℕ → Ruling) (onBox : View → ℕ → ℕ → List ℕ → List ℕ → Ruling) (onCommand : View → Asked → List ℕ → Ruling)
+    (f : AsListed (ruledBy onWrite onBox onCommand)) (n : ℕ) where
+  -- what a call there is listed to answer
+  abbrev At : Call → Type 0
+  At c = Listed (checked (empty n .log) (empty n .buffer) ≡ Fine → ⊥) (view n) (empty n .readers) c (ruledBy onWrite onBox onCommand (empty n) c)
+
+  -- what the writes and a command do answer
   module _ (bytes : List ℕ) (q : Ruling) (e : onWrite (view n) bytes ≡ q) where
-    abbrev written : Listed (checked (empty n .log) (empty n .buffer) ≡ Fine → ⊥) (view n) (empty n .readers) (outside 0 bytes) (ruledBy onWrite onCommand (empty n) (outside 0 bytes))
+    abbrev written : At (outside 0 bytes)
     written = f (empty n) (bytes-of n) (outside 0 bytes) tt
 
     write-answers : numberBy (pos (length bytes)) q ≡ written .answer
@@ -94,8 +99,18 @@ module _ (onWrite : View → List ℕ → Ruling) (onCommand : View → Asked �
         ∙ sym (write-number (empty n .log) (empty n .buffer) _ (length bytes) _)
         ∙ written .answers
 
+  module _ (text : List ℕ) (q : Ruling) (e : onBox (view n) 0 0 text [] ≡ q) where
+    abbrev boxed : At (box 0 0 0 text [])
+    boxed = f (empty n) (bytes-of n) (box 0 0 0 text []) tt
+
+    box-answers : numberBy (pos (length text + 0)) q ≡ boxed .answer
+    box-answers =
+        ap (numberBy (pos (length text + 0))) (sym e ∙ sym (by-ruling n (λ v. onBox v 0 0 text [])))
+        ∙ sym (write-number (empty n .log) (empty n .buffer) _ (length text + 0) _)
+        ∙ boxed .answers
+
   module _ (a : Asked) (q : Ruling) (e : onCommand (view n) a [] ≡ q) where
-    abbrev commanded : Listed (checked (empty n .log) (empty n .buffer) ≡ Fine → ⊥) (view n) (empty n .readers) (command a []) (ruledBy onWrite onCommand (empty n) (command a []))
+    abbrev commanded : At (command a [])
     commanded = f (empty n) (bytes-of n) (command a []) tt
 
     command-answers : numberBy (pos (count (view n) (a .command) (natural (a .len)))) q ≡ commanded .answer
@@ -107,15 +122,15 @@ module _ (onWrite : View → List ℕ → Ruling) (onCommand : View → Asked �
 -- ---- each of them
 
 no-write-over : {failing : Type 0} {v : View} {readers : List ℕ} → Applies failing v readers (outside 0 []) EINVAL → ⊥
-no-write-over h = elim h [ over-960 g ↦ absurd (omega arith) ]
+no-write-over h = elim h [ over-960 g ↦ absurd (omega arith) | zero-byte g ↦ g ]
 
-all-refused : AsListed (ruledBy refuseAll commandRuling) → ⊥
+all-refused : AsListed (ruledBy refuseAll boxRuling commandRuling) → ⊥
 all-refused f =
-    let x = written refuseAll commandRuling f 0 [] (refused EINVAL) refl in
-    no-write-over (x .exactly .only EINVAL (inr (inr (inr (inl refl)))) (sym (write-answers refuseAll commandRuling f 0 [] (refused EINVAL) refl)) .0)
+    let x = written refuseAll boxRuling commandRuling f 0 [] (refused EINVAL) refl in
+    no-write-over (x .exactly .only EINVAL (inr (inr (inr (inl refl)))) (sym (write-answers refuseAll boxRuling commandRuling f 0 [] (refused EINVAL) refl)) .0)
 
 long : List ℕ
-long = replicate 961 0
+long = replicate 961 97
 
 long-over : {failing : Type 0} {v : View} {readers : List ℕ} → Applies failing v readers (outside 0 long) EINVAL
 unfolding long
@@ -123,35 +138,56 @@ long-over =
     let h : payloadMost < length long = omega arith in
     over-960 h
 
-overflow-refused : AsListed (ruledBy overflowFirst commandRuling) → ⊥
+overflow-refused : AsListed (ruledBy overflowFirst boxRuling commandRuling) → ⊥
 overflow-refused f =
     let e : overflowFirst (view wordMost) long ≡ refused EOVERFLOW = rw (next-is wordMost) in
-    let x = written overflowFirst commandRuling f wordMost long (refused EOVERFLOW) e in
+    let x = written overflowFirst boxRuling commandRuling f wordMost long (refused EOVERFLOW) e in
     x .exactly .only EOVERFLOW (inr (inr (inr (inr (inr (inl refl))))))
-    (sym (write-answers overflowFirst commandRuling f wordMost long (refused EOVERFLOW) e))
+    (sym (write-answers overflowFirst boxRuling commandRuling f wordMost long (refused EOVERFLOW) e))
     .1 EINVAL (inr (inr (inr (inl (refl, inr (inl refl)))))) long-over
 
--- no row before -22 applies to it, on the log whose next number is 0
-abbrev Row : Refusal → Type 0
-Row e = Applies (checked (empty 0 .log) (empty 0 .buffer) ≡ Fine → ⊥) (view 0) (empty 0 .readers) (outside 0 long) e
+module _ (bytes : List ℕ) where
+  abbrev Row : Refusal → Type 0
+  Row e = Applies (checked (empty 0 .log) (empty 0 .buffer) ≡ Fine → ⊥) (view 0) (empty 0 .readers) (outside 0 bytes) e
 
-none-before : (e : Refusal) → Earlier e EINVAL table → Row e → ⊥
-none-before EBADFD k h = elim h [ check-fails g ↦ g (empty-fine 0) ]
-none-before EPERM k h = elim h [ ]
-none-before ESPIPE k h = elim h [ ]
-none-before EINVAL k h = rows-apart (outside 0 long) 0 .once EINVAL k
-none-before EFAULT k h = elim h [ ]
-none-before EOVERFLOW k h = elim h [ outside-at-last e ↦ absurd (omega (arith, e, next-is 0)) ]
-none-before EPIPE k h = elim h [ ]
-none-before EAGAIN k h = elim h [ ]
+  -- no row before -22 applies to a write from outside, on the log whose next number is 0
+  none-before : (e : Refusal) → Earlier e EINVAL table → Row e → ⊥
+  none-before EBADFD k h = elim h [ check-fails g ↦ g (empty-fine 0) ]
+  none-before EPERM k h = elim h [ ]
+  none-before ESPIPE k h = elim h [ ]
+  none-before EINVAL k h = rows-apart (outside 0 bytes) 0 .once EINVAL k
+  none-before EFAULT k h = elim h [ ]
+  none-before EOVERFLOW k h = elim h [ outside-at-last e ↦ absurd (omega (arith, e, next-is 0)) ]
+  none-before EPIPE k h = elim h [ ]
+  none-before EAGAIN k h = elim h [ ]
 
-byte-refused : AsListed (ruledBy oneByteMore commandRuling) → ⊥
+  -- so that a log which takes bytes that the row names is wrong
+  taken-refused : (onWrite : View → List ℕ → Ruling) → onWrite (view 0) bytes ≡ allowed → Row EINVAL
+      → AsListed (ruledBy onWrite boxRuling commandRuling) → ⊥
+  taken-refused onWrite e r f =
+      let x = written onWrite boxRuling commandRuling f 0 bytes allowed e in
+      let y : x .answer ≡ refusalNumber EINVAL = x .exactly .always EINVAL (inr (inr (inr (inl refl)))) r none-before in
+      never (length bytes) 21 (write-answers onWrite boxRuling commandRuling f 0 bytes allowed e ∙ y)
+
+byte-refused : AsListed (ruledBy oneByteMore boxRuling commandRuling) → ⊥
 unfolding long
-byte-refused f =
-    let e : oneByteMore (view 0) long ≡ allowed = rw (next-is 0) in
-    let x = written oneByteMore commandRuling f 0 long allowed e in
-    let y : x .answer ≡ refusalNumber EINVAL = x .exactly .always EINVAL (inr (inr (inr (inl refl)))) long-over none-before in
-    never 961 21 (write-answers oneByteMore commandRuling f 0 long allowed e ∙ y)
+byte-refused = taken-refused long oneByteMore (rw (next-is 0)) long-over
+
+zero-refused : AsListed (ruledBy zeroTaken boxRuling commandRuling) → ⊥
+zero-refused = taken-refused (0 ∷ []) zeroTaken (rw (next-is 0)) (zero-byte (inl refl))
+
+box-right : {failing : Type 0} {v : View} {readers : List ℕ} → Applies failing v readers (box 0 0 0 (0 ∷ []) []) EINVAL → ⊥
+box-right h = elim h [
+  | over-960-together g ↦ absurd (omega arith)
+  | bad-facility g ↦ absurd (omega arith)
+  | bad-level g ↦ absurd (omega arith)
+  | bad-dictionary g ↦ g (inl refl)
+]
+
+from-box-refused : AsListed (ruledBy outsideRuling zeroFromBox commandRuling) → ⊥
+from-box-refused f =
+    let x = boxed outsideRuling zeroFromBox commandRuling f 0 (0 ∷ []) (refused EINVAL) refl in
+    box-right (x .exactly .only EINVAL (inr (inr (inr (inl refl)))) (sym (box-answers outsideRuling zeroFromBox commandRuling f 0 (0 ∷ []) (refused EINVAL) refl)) .0)
 
 poor : Asked
 poor = record { command = pos 11; len = pos 0; privilege = false; restriction = true }
@@ -163,15 +199,15 @@ not-open o = elim (o .type) [
   | inr e ↦ other 11 10 e (omega arith)
 ]
 
-invalid-refused : AsListed (ruledBy outsideRuling invalidFirst) → ⊥
+invalid-refused : AsListed (ruledBy outsideRuling boxRuling invalidFirst) → ⊥
 unfolding poor
 invalid-refused f =
-    let x = commanded outsideRuling invalidFirst f 0 poor (refused EINVAL) refl in
-    x .exactly .only EINVAL (inr (inr (inr (inl refl)))) (sym (command-answers outsideRuling invalidFirst f 0 poor (refused EINVAL) refl))
+    let x = commanded outsideRuling boxRuling invalidFirst f 0 poor (refused EINVAL) refl in
+    x .exactly .only EINVAL (inr (inr (inr (inl refl)))) (sym (command-answers outsideRuling boxRuling invalidFirst f 0 poor (refused EINVAL) refl))
     .1 EPERM (inr (inl (refl, inr (inl refl)))) (without-privilege refl not-open)
 
-ours : (s : State) (c : Call) → ruledBy outsideRuling commandRuling s c ≡ answered s c
-unfolding step outsideWrite commanding
+ours : (s : State) (c : Call) → ruledBy outsideRuling boxRuling commandRuling s c ≡ answered s c
+unfolding step outsideWrite boxWrite commanding
 ours s (outside time bytes) = refl
 ours s (box facility level time text dictionary) = refl
 ours s make = refl
@@ -184,4 +220,12 @@ ours s (console level setting) = refl
 
 pub wrong-refused : WrongRefused
 wrong-refused =
-    record { ours = ours; all = all-refused; overflow = overflow-refused; byte = byte-refused; invalid = invalid-refused }
+    record {
+      ours = ours;
+      all = all-refused;
+      overflow = overflow-refused;
+      byte = byte-refused;
+      zero = zero-refused;
+      from-box = from-box-refused;
+      invalid = invalid-refused;
+    }

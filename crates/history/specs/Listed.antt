@@ -1,4 +1,4 @@
--- Document 01's table "When the log says no", as it is written: a line for each phrase, in the words of what the log holds, the reader's number
+-- Document 01's table "When the log says no", as it is written and as document 02 amends it: a line for each phrase, in the words of what the log holds, the reader's number
 -- and what is handed in. None of the tests that the calls' definitions are made of is in it, so that a log which refuses more, less or in
 -- another order does not meet it. The figures are the paper's own, as in the tables of cases: a limit that is moved in its definition is refused here.
 use Prim.Native.Nat.{ℕ, _+_, _-_, _^_, _<_, _≤_}
@@ -9,7 +9,7 @@ use mathlib.Core.List.{List, [], _∷_}
 use lib.IntN.{ℤ, pos, negsuc}
 use lib.ListN.{length, getD}
 use Rattle.slices.specs.Tests.{allBytes}
-use Rattle.slices.specs.Listed.{Exactly}
+use Rattle.slices.specs.Listed.{In, Exactly}
 use Rattle.record.specs.Limits.{capacityLeast, capacityMost}
 use Rattle.record.specs.Dictionary.{Dictionary}
 use Rattle.record.specs.Forms.{kmsgLine}
@@ -59,6 +59,8 @@ pub data Applies (fails : Type 0) (v : View) (readers : List ℕ) : Call → Ref
   over-960 : {time : ℕ} {bytes : List ℕ} → 960 < length bytes → Applies fails v readers (outside time bytes) EINVAL
   over-960-together : {facility level time : ℕ} {text dictionary : List ℕ} → 960 < length text + length dictionary
       → Applies fails v readers (box facility level time text dictionary) EINVAL
+  -- a zero byte among the bytes handed in from outside (document 02, ticket 1);
+  zero-byte : {time : ℕ} {bytes : List ℕ} → In 0 bytes → Applies fails v readers (outside time bytes) EINVAL
   -- bad facility, level or dictionary;
   bad-facility : {facility level time : ℕ} {text dictionary : List ℕ} → 255 < facility
       → Applies fails v readers (box facility level time text dictionary) EINVAL

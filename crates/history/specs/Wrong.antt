@@ -1,39 +1,44 @@
 -- Logs that refuse otherwise than document 01 lists: each is like ours in everything but one ruling, and the table's statement refuses it. A log
 -- whose code and definition were both wrong in such a way would meet its promises, and demand 2 with them; it does not meet this.
-use Prim.Native.Nat.{ℕ}
+use Prim.Native.Nat.{ℕ, _+_}
 use mathlib.Core.Path.{_≡_}
 use mathlib.Core.Bool.{not, _&&_}
 use mathlib.Core.List.{List, [], _∷_}
 use lib.Dec.{ltb, eqb}
 use lib.ListN.{length}
+use Rattle.slices.specs.Cut.{has}
 use Rattle.record.specs.Limits.{payloadMost}
 use Rattle.log.specs.Answer.{Ruling, refused, rulingOf, is, isNegative, natural}
 use Rattle.log.specs.View.{View}
 use Rattle.log.specs.Check.{viewOf, ruled}
 use Rattle.log.specs.declared.Refusal.the-variants.{EPERM, EINVAL, EFAULT, EAGAIN}
-use Rattle.writes.specs.Write.{outsideRecord, numbersOver, outsideRuling, writeBy}
+use Rattle.writes.specs.Write.{outsideRecord, boxRecord, numbersOver, boxTests, outsideRuling, boxRuling, writeBy}
 use Rattle.syslog.specs.Command.{copies, isKnown, isPermitted, wantsLevel, unread, commandRuling, commandBy, onLog}
 use Rattle.syslog.specs.declared.Asked.{Asked}
 use Rattle.history.specs.Calls.{Call, outside, box, make, place, read, seek, command, check, console, Reply, State, afterWrite, afterCommand}
 use Rattle.history.specs.Listed.{AsListed, answered}
 
--- our log, but for the rulings on a write from outside and on a command
-abbrev pub ruledBy : (View → List ℕ → Ruling) → (View → Asked → List ℕ → Ruling) → State → Call → Reply
-ruledBy onWrite onCommand s (outside time bytes) =
+-- our log, but for the rulings on a write from outside, on one from the box and on a command
+abbrev pub ruledBy : (View → List ℕ → Ruling) → (View → ℕ → ℕ → List ℕ → List ℕ → Ruling) → (View → Asked → List ℕ → Ruling) → State → Call → Reply
+ruledBy onWrite onBox onCommand s (outside time bytes) =
     afterWrite (s .readers)
     (writeBy (s .log) (s .buffer) (outsideRecord (s .log .next .0) time bytes) (length bytes) (ruled (s .log) (s .buffer) (λ v. onWrite v bytes)))
     .reply
-ruledBy onWrite onCommand s (box facility level time text dictionary) = answered s (box facility level time text dictionary)
-ruledBy onWrite onCommand s make = answered s make
-ruledBy onWrite onCommand s (place i n) = answered s (place i n)
-ruledBy onWrite onCommand s (read i lent) = answered s (read i lent)
-ruledBy onWrite onCommand s (seek i offset whence) = answered s (seek i offset whence)
-ruledBy onWrite onCommand s (command a lent) =
+ruledBy onWrite onBox onCommand s (box facility level time text dictionary) =
+    afterWrite (s .readers)
+    (writeBy (s .log) (s .buffer) (boxRecord (s .log .next .0) time facility level text dictionary) (length text + length dictionary)
+    (ruled (s .log) (s .buffer) (λ v. onBox v facility level text dictionary)))
+    .reply
+ruledBy onWrite onBox onCommand s make = answered s make
+ruledBy onWrite onBox onCommand s (place i n) = answered s (place i n)
+ruledBy onWrite onBox onCommand s (read i lent) = answered s (read i lent)
+ruledBy onWrite onBox onCommand s (seek i offset whence) = answered s (seek i offset whence)
+ruledBy onWrite onBox onCommand s (command a lent) =
     afterCommand s
     (onLog (s .log) (commandBy (viewOf (s .log) (s .buffer)) a lent (ruled (s .log) (s .buffer) (λ v. onCommand v a lent))))
     .reply
-ruledBy onWrite onCommand s check = answered s check
-ruledBy onWrite onCommand s (console level setting) = answered s (console level setting)
+ruledBy onWrite onBox onCommand s check = answered s check
+ruledBy onWrite onBox onCommand s (console level setting) = answered s (console level setting)
 
 -- every write refused
 abbrev pub refuseAll : View → List ℕ → Ruling
@@ -41,11 +46,19 @@ refuseAll v bytes = refused EINVAL
 
 -- -75 before -22
 abbrev pub overflowFirst : View → List ℕ → Ruling
-overflowFirst v bytes = rulingOf (numbersOver v ∷ (ltb payloadMost (length bytes), EINVAL) ∷ [])
+overflowFirst v bytes = rulingOf (numbersOver v ∷ (ltb payloadMost (length bytes), EINVAL) ∷ (has 0 bytes, EINVAL) ∷ [])
 
 -- 961 bytes taken
 abbrev pub oneByteMore : View → List ℕ → Ruling
-oneByteMore v bytes = rulingOf ((ltb 961 (length bytes), EINVAL) ∷ numbersOver v ∷ [])
+oneByteMore v bytes = rulingOf ((ltb 961 (length bytes), EINVAL) ∷ (has 0 bytes, EINVAL) ∷ numbersOver v ∷ [])
+
+-- a zero byte taken from outside
+abbrev pub zeroTaken : View → List ℕ → Ruling
+zeroTaken v bytes = rulingOf ((ltb payloadMost (length bytes), EINVAL) ∷ numbersOver v ∷ [])
+
+-- a zero byte refused from the box too
+abbrev pub zeroFromBox : View → ℕ → ℕ → List ℕ → List ℕ → Ruling
+zeroFromBox v facility level text dictionary = rulingOf ((has 0 text, EINVAL) ∷ boxTests v facility level text dictionary)
 
 -- -22 before -1
 abbrev pub invalidFirst : View → Asked → List ℕ → Ruling
@@ -61,8 +74,10 @@ invalidFirst v a lent =
 
 pub record WrongRefused : Type 0 where
   -- with our own rulings it is our log
-  pub ours : (s : State) (c : Call) → ruledBy outsideRuling commandRuling s c ≡ answered s c
-  pub all : AsListed (ruledBy refuseAll commandRuling) → ⊥
-  pub overflow : AsListed (ruledBy overflowFirst commandRuling) → ⊥
-  pub byte : AsListed (ruledBy oneByteMore commandRuling) → ⊥
-  pub invalid : AsListed (ruledBy outsideRuling invalidFirst) → ⊥
+  pub ours : (s : State) (c : Call) → ruledBy outsideRuling boxRuling commandRuling s c ≡ answered s c
+  pub all : AsListed (ruledBy refuseAll boxRuling commandRuling) → ⊥
+  pub overflow : AsListed (ruledBy overflowFirst boxRuling commandRuling) → ⊥
+  pub byte : AsListed (ruledBy oneByteMore boxRuling commandRuling) → ⊥
+  pub zero : AsListed (ruledBy zeroTaken boxRuling commandRuling) → ⊥
+  pub from-box : AsListed (ruledBy outsideRuling zeroFromBox commandRuling) → ⊥
+  pub invalid : AsListed (ruledBy outsideRuling boxRuling invalidFirst) → ⊥

@@ -25,7 +25,7 @@ use Rattle.message.specs.Line.{lineRefusal, readLine}
 use Rattle.board.specs.Board.{fresh, lacksRoom, boardRefusal, show, deliver}
 use Rattle.moments.specs.Case.{AllAgree, done, _and_}
 use Rattle.moments.specs.Table.{t1, t2, t3, t4, t5, t6, t7, t8, t9, t10, t11, t12, last-line, TableAgrees}
-use Rattle.moments.specs.Refusals.{refusals, readers-refused, writes-refused, commands-refused}
+use Rattle.moments.specs.Refusals.{refusals, readers-refused, writes-refused, zeros-refused, commands-refused}
 use Rattle.moments.specs.Pages.{pages, prefixes, from-box, seeks, goes-on, mark-passed, mark-passed-by-4, none-of-dropped, console-8, console-6, console-7, overtaken-end}
 use Rattle.moments.specs.Bytes.{stored, in-front, with-dictionary, only-marks, text-over, start-over, heading-over, dictionary-over, just-full, full-goes-on, position-stays}
 use Rattle.moments.specs.Pairs.{together, eperm-before-einval, efault-between, eperm-alone}
@@ -70,6 +70,7 @@ refusals-agree =
     and refl
     and on-fresh readers-refused refl
     and on-fresh writes-refused refl
+    and on-fresh zeros-refused refl
     and on-fresh commands-refused refl
     and refl
     and refl

@@ -12,7 +12,7 @@ use Rattle.moments.specs.Refusals.{byHand, last, board₁}
 
 -- ---- the log
 
--- -77 before every other: console level 9 doesn't fit, and besides: -22 (961 bytes, facility 256, whence 1, type 11), -75 (next is
+-- -77 before every other: console level 9 doesn't fit, and besides: -22 (961 bytes, a zero byte, facility 256, whence 1, type 11), -75 (next is
 -- 2^64 - 1), -29 (offset 1), -32 (a reader at 0), -11 (one at next; nothing unread), -1, -14
 abbrev pub ebadfd-first : Calls
 ebadfd-first =
@@ -20,6 +20,7 @@ ebadfd-first =
       before = hand (byHand 0 last last 9);
       earlier = [];
       steps = outside 0 (replicate 961 97) gives wrote (minus 77) 0
+          ∷ outside 0 (quoted "\0") gives wrote (minus 77) 0
           ∷ box 256 0 0 [] [] gives wrote (minus 77) 0
           ∷ outside 0 [] gives wrote (minus 77) 0
           ∷ seek 0 (pos 1) (pos 0) gives sought (minus 77) 0

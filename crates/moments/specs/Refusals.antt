@@ -44,6 +44,7 @@ heading-fails =
       before = hand (byHand 24 0 1 7);
       earlier = [];
       steps = outside 0 [] gives wrote (minus 77) 0
+          ∷ outside 0 (quoted "\0") gives wrote (minus 77) 0
           ∷ box 1 0 0 [] [] gives wrote (minus 77) 0
           ∷ read 0 (quoted "x") gives gave (minus 77) 0 0 (quoted "x")
           ∷ seek 0 (pos 1) (pos 3) gives sought (minus 77) 0
@@ -82,6 +83,7 @@ numbers-over =
           ∷ outside 0 [] gives wrote (minus 75) 0
           ∷ box 1 0 0 [] [] gives wrote (minus 75) 0
           ∷ outside 0 (replicate 961 97) gives wrote (minus 22) 0
+          ∷ outside 0 (quoted "\0") gives wrote (minus 22) 0
           ∷ box 256 0 0 [] [] gives wrote (minus 22) 0
           ∷ read 0 [] gives gave (minus 32) last last []
           ∷ [];
@@ -136,6 +138,34 @@ writes-refused =
           ∷ box 0 0 0 [] (quoted "a=") gives wrote (pos 2) 0
           ∷ [];
       after = record { used = 50; first = 0; next = 2; level = 7 };
+    }
+
+-- -22 EINVAL, as document 02's ticket 1 amends it: a zero byte from outside, as the only byte, at either end and in the middle, in the prefix, behind it,
+-- before a final newline and behind it, among 960 bytes and 961. The box writes zeros; 960 bytes without one are taken
+abbrev pub zeros-refused : Calls
+zeros-refused =
+    record {
+      before = new;
+      earlier = [];
+      steps = make gives made 0
+          ∷ box 1 4 0 (quoted "\0") [] gives wrote (pos 1) 0
+          ∷ box 1 4 0 (quoted "a\0b") (quoted "a=\0b=") gives wrote (pos 8) 0
+          ∷ outside 0 (quoted "\0") gives wrote (minus 22) 0
+          ∷ outside 0 (quoted "<1" ++ (0 ∷ quoted "3>x")) gives wrote (minus 22) 0
+          ∷ outside 0 (quoted "<13>\0") gives wrote (minus 22) 0
+          ∷ outside 0 (quoted "\0\n") gives wrote (minus 22) 0
+          ∷ outside 0 (quoted "x\n\0") gives wrote (minus 22) 0
+          ∷ outside 0 (0 ∷ replicate 959 97) gives wrote (minus 22) 0
+          ∷ outside 0 (replicate 480 97 ++ (0 ∷ replicate 479 97)) gives wrote (minus 22) 0
+          ∷ outside 0 (replicate 959 97 ++ (0 ∷ [])) gives wrote (minus 22) 0
+          ∷ outside 0 (replicate 960 97 ++ (0 ∷ [])) gives wrote (minus 22) 0
+          ∷ outside 0 (replicate 961 97) gives wrote (minus 22) 0
+          ∷ read 0 (blank 16) gives gave (pos 14) 0 1 (quoted "12,0,0,-;\\x00\n" ++ blank 2)
+          ∷ read 0 (blank 26) gives gave (pos 24) 0 2 (quoted "12,1,0,-;a\\x00b\n a=\n b=\n" ++ blank 2)
+          ∷ read 0 (blank 1) gives gave (minus 11) 0 2 (blank 1)
+          ∷ outside 0 (replicate 960 97) gives wrote (pos 960) 1
+          ∷ [];
+      after = record { used = 1016; first = 1; next = 3; level = 7 };
     }
 
 -- -1 EPERM: without privilege, but for 3 and 10 with restriction off. -22 EINVAL: unknown type; len below 0; level. -14 EFAULT: len above the
@@ -264,6 +294,7 @@ refusals =
     ∷ calls last-number
     ∷ calls readers-refused
     ∷ calls writes-refused
+    ∷ calls zeros-refused
     ∷ calls commands-refused
     -- 1 ROOM: result buffer under 960 bytes, numbers block not 48, though the message is empty
     ∷ lineAnswers 959 48 1 ([] ∷ goal)
