@@ -25,12 +25,18 @@ impl Script<'_> {
 
     pub(super) fn outside(&mut self) {
         let mut handed = self.prefix_spelling();
+        let prefix = handed.len();
         let length = self.length();
         handed.extend(self.bytes(length));
         let tail = self
             .random
             .pick(&["", "", "", "\n", "\n", "\n\n", "\n\n\n", "\r\n"]);
         handed.extend(tail.bytes());
+        // Zeros are refused here: they come by choice alone, so that most writes are taken.
+        for byte in handed.iter_mut().filter(|byte| **byte == 0) {
+            *byte = self.random.within(1, 255) as u8;
+        }
+        let zeros = self.random.chance(20);
         let kind = self.random.below(60);
         let total = match kind {
             0 | 1 => Some(BULK),
@@ -38,6 +44,11 @@ impl Script<'_> {
             4 => Some(BULK - 1),
             5 => Some(self.random.within(962, 2_000) as usize),
             6 if self.random.chance(10) => Some(self.random.within(2_000, 19_000) as usize),
+            7 => Some(BULK - 16),
+            8..=11 if zeros => Some(1),
+            12..=15 if zeros => Some(prefix + 1),
+            16..=31 if zeros => Some(self.random.within(1, 40) as usize),
+            32..=40 if zeros => Some(self.random.pick(&[BULK - 16, BULK - 1, BULK, BULK + 1])),
             _ if handed.len() > BULK => Some(BULK),
             _ => None,
         };
@@ -47,9 +58,41 @@ impl Script<'_> {
                 handed[total - 1] = b'\n';
             }
         }
+        if zeros {
+            self.put_zeros(&mut handed, prefix);
+        }
         let time = self.time();
         self.say(format!("outside {time} {}", hex(&handed)));
         self.after_call();
+    }
+
+    /// Puts zeros among bytes that begin with a prefix of so many: at either end, in the prefix and
+    /// behind it, around a final newline, and where steps of 8 or 16 bytes begin and end.
+    fn put_zeros(&mut self, bytes: &mut [u8], prefix: usize) {
+        const PLACES: &[usize] = &[0, 7, 8, 15, 16, 17, 31, 32, 943, 944, 958, 959];
+        let Some(last) = bytes.len().checked_sub(1) else {
+            return;
+        };
+        let within = PLACES.partition_point(|&place| place <= last);
+        for _ in 0..self.random.pick(&[1, 1, 1, 2, 5]) {
+            let place = match self.random.below(13) {
+                0 => 0,
+                1 => last,
+                2 | 3 if prefix > 0 => self.random.below(prefix as u64) as usize,
+                4 | 5 if prefix > 0 => prefix,
+                6 if last > 0 => {
+                    bytes[last] = b'\n';
+                    last - 1
+                }
+                7 if last > 0 => {
+                    bytes[last - 1] = b'\n';
+                    last
+                }
+                8 => self.random.below(last as u64 + 1) as usize,
+                _ => self.random.pick(&PLACES[..within]),
+            };
+            bytes[place.min(last)] = 0;
+        }
     }
 
     pub(super) fn from_box(&mut self) {
@@ -106,6 +149,9 @@ impl Script<'_> {
         };
         if text.len() + dictionary.len() > BULK + 1 && self.random.chance(90) {
             text.truncate(BULK - dictionary.len());
+        }
+        if self.random.chance(15) {
+            self.put_zeros(&mut text, 0);
         }
         let time = self.time();
         self.say(format!(
@@ -394,7 +440,7 @@ impl Script<'_> {
     pub(super) fn fill_up(&mut self) {
         let style = self.style;
         self.style = Style::Long;
-        let rounds = self.capacity() / 700 + 4;
+        let rounds = self.capacity() / 580 + 4;
         for _ in 0..rounds {
             match self.random.chance(60) {
                 true => self.outside(),

@@ -1,6 +1,7 @@
 //! Every row of "When the log says no", and the order of the rows.
 
 use super::{many, x, Play};
+use crate::answer::hex;
 
 const TOP: &str = "18446744073709551615";
 
@@ -26,6 +27,7 @@ fn ebadfd_when_the_check_fails() {
             &["outside 0 61", "box 1 1 0 61 -", "box 999 9 0 - 3d", &over],
             "-77 0",
         );
+        play.all_unmoved(&["outside 0 00", "outside 0 610062"], "-77 0");
         play.all_unmoved(&["read 0 5000", "read 0 0"], "-77 0 -");
         play.all_unmoved(&["seek 0 0 0", "seek 0 1 9"], "-77");
         for kind in -1..=11 {
@@ -159,6 +161,56 @@ fn einval_on_writes() {
     play.is(&format!("outside 0 {}", many(b'p', 960)), "960 1");
 }
 
+/// `length` plain bytes from outside, but for a zero at this place.
+fn zero_at(place: usize, length: usize) -> String {
+    let mut handed = vec![b'p'; length];
+    handed[place] = 0;
+    format!("outside 0 {}", hex(&handed))
+}
+
+#[test]
+fn einval_on_a_zero_from_outside() {
+    let mut play = played();
+    for handed in [
+        "\0",
+        "<1\x003>x",
+        "<\x0013>x",
+        "<13\0>x",
+        "<13\0",
+        "\0<13>x",
+        "<13>\0",
+        "<13>\0x",
+        "<13>\0\n",
+        "\0\n",
+        "x\0\n",
+        "\n\0",
+        "x\n\0",
+        "\0\0",
+    ] {
+        play.all_unmoved(&[&format!("outside 0 {}", x(handed))], "-22 0");
+    }
+    for place in 0..40 {
+        play.all_unmoved(&[&zero_at(place, 40)], "-22 0");
+        play.all_unmoved(&[&zero_at(place, place + 1)], "-22 0");
+    }
+    for place in [0, 1, 479, 480, 943, 944, 958, 959] {
+        play.all_unmoved(&[&zero_at(place, 960), &zero_at(place, 961)], "-22 0");
+    }
+    play.all_unmoved(&[&zero_at(960, 961)], "-22 0");
+    for count in [960, 961] {
+        play.all_unmoved(&[&format!("outside 0 {}", many(0, count))], "-22 0");
+    }
+    // Two records of 26 bytes, as before; 960 bytes without a zero are still taken, 961 are not.
+    play.is("numbers", "0 52 0 2 0 0 0 7");
+    play.is("check", "fine");
+    play.all_unmoved(&[&format!("outside 0 {}", many(b'p', 961))], "-22 0");
+    play.is(&format!("outside 0 {}", many(b'p', 960)), "960 1");
+    for byte in 1..=255 {
+        let mut play = Play::new(&["log 1024 0"]);
+        play.is(&format!("outside 0 {byte:02x}"), "1 0");
+    }
+}
+
 #[test]
 fn einval_on_a_short_buffer() {
     let mut play = played();
@@ -207,6 +259,10 @@ fn eoverflow() {
     // After -22.
     let over = format!("outside 0 {}", many(b'p', 961));
     play.all_unmoved(&[&over, "box 256 1 0 - -"], "-22 0");
+    for zero in [zero_at(0, 1), zero_at(959, 960), zero_at(0, 961)] {
+        play.all_unmoved(&[&zero], "-22 0");
+    }
+    play.all_unmoved(&["box 1 1 0 00 -"], "-75 0");
     play.is("read 0 5000", "-32 18446744073709551614 -");
     let line = "12,18446744073709551614,0,-;a\n";
     play.is("read 0 5000", &format!("{} 0 {}", line.len(), x(line)));

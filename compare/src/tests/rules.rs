@@ -57,6 +57,26 @@ fn records_from_the_box_are_taken_as_they_come() {
 }
 
 #[test]
+fn the_box_may_write_zeros() {
+    let mut play = Play::new(&["log 1024 0", "reader"]);
+    play.is("box 1 4 0 00 -", "1 0");
+    play.is(
+        &format!("box 1 4 0 {} {}", x("a\0b"), x("a=1\0b=2")),
+        "10 0",
+    );
+    // 25 and 34 bytes.
+    play.is("numbers", "0 59 0 2 0 0 0 7");
+    play.is("read 0 5000", &format!("14 0 {}", x("12,0,0,-;\\x00\n")));
+    let line = "12,1,0,-;a\\x00b\n a=1\n b=2\n";
+    play.is("read 0 5000", &format!("26 0 {}", x(line)));
+    let forms = x("<12>\0\n<12>a\0b\n");
+    play.is("command 3 99 1 0 99", &format!("14 {forms}"));
+    play.is(&format!("box 1 4 0 {} -", many(0, 960)), "960 1");
+    play.is("numbers", "25 1018 1 3 0 0 0 7");
+    play.is("check", "fine");
+}
+
+#[test]
 fn a_record_runs_past_the_end_and_goes_on_at_the_start() {
     let mut play = Play::new(&["log 1024 165", "reader"]);
     play.is(&format!("outside 0 {}", many(b'a', 960)), "960 0");

@@ -76,6 +76,50 @@ fn long_runs() {
     }
 }
 
+/// Zeros from outside are met at every place that matters, and leave most writes without one.
+#[test]
+fn zeros_from_outside() {
+    let (mut taken, mut zeros, mut at_top, mut damaged) = (0, 0, 0, 0);
+    let (mut alone, mut values) = (BTreeSet::new(), BTreeSet::new());
+    for seed in 0..6 {
+        let mut machine = Machine::default();
+        for line in script(seed, 6_000, seed % 2 == 1).split(|&b| b == b'\n') {
+            let next = machine.log.as_ref().map(|log| log.numbers().next);
+            let answer = machine.answer(line);
+            let words: Vec<&[u8]> = line.split(|&b| b == b' ').collect();
+            if words[0] != b"outside" || answer == "?" || words[2] == b"-" {
+                continue;
+            }
+            let handed: Vec<&[u8]> = words[2].chunks(2).collect();
+            let places: Vec<usize> = (0..handed.len()).filter(|&i| handed[i] == b"00").collect();
+            match (answer.as_str(), places.len()) {
+                ("-77 0", 0) | ("-75 0", 0) | ("-22 0", 0) => (),
+                ("-77 0", _) => damaged += 1,
+                ("-22 0", count) => {
+                    zeros += 1;
+                    at_top += u64::from(next == Some(u64::MAX));
+                    if count == 1 {
+                        alone.insert(places[0]);
+                    }
+                }
+                (_, count) => {
+                    assert_eq!(count, 0, "{answer}");
+                    taken += 1;
+                    values.extend(handed.into_iter().map(<[u8]>::to_vec));
+                }
+            }
+        }
+    }
+    assert!(zeros * 10 > taken && zeros * 2 < taken, "{zeros} {taken}");
+    assert!(at_top > 0 && damaged > 0);
+    for place in [0, 7, 8, 15, 16, 17, 31, 32, 943, 944, 958, 959] {
+        assert!(alone.contains(&place), "{place}");
+    }
+    for byte in 1..=255 {
+        assert!(values.contains(format!("{byte:02x}").as_bytes()), "{byte}");
+    }
+}
+
 /// Bytes of every kind make no trouble.
 #[test]
 fn any_bytes_at_all() {
