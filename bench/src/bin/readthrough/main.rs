@@ -1,6 +1,8 @@
 //! What crates/readthrough does, as plain safe Rust: fills a log of 65,536 bytes and reads it through.
 //! Standard input is two numbers: the bytes of text in each record, and how often the log is read.
 
+#[path = "../../log.rs"]
+#[allow(dead_code)] // the calls of the other programs
 mod log;
 
 use log::{Log, Refusal};
