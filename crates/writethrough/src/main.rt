@@ -1,12 +1,14 @@
-// One message from outside written to a log over and over: how many bytes were answered, how many records dropped, and the log's numbers and a checksum of
-// its buffer afterwards. bench/ has a plain program that does the same, and times both.
+// One message from outside written to a log over and over: how many bytes were answered, how many records dropped, the log's numbers afterwards, and the
+// oldest line that it holds. bench/ has a plain program that does the same, and times both.
 //
 // Standard input is two numbers parted by a space and ended by a newline, the log's capacity and how often the message is written; then the message.
+use kmsg::Reader;
 use libc::STDIN_FILENO;
 use libc::STDOUT_FILENO;
 use log::Answer;
 use log::Log;
 use number::Decimal;
+use record::Heading;
 use slices::Found;
 use std::num::wrapping_add_u64;
 
@@ -83,29 +85,12 @@ fn write_often(buffer: &mut [u8], message: &[u8], times: u64) -> Told {
     }
 }
 
-fn wide(b: u8) -> u64 {
-    b as u64
-}
-
-// The sum of what the sum of the bytes was after each; the sums wrap.
-fn checksum(buffer: &[u8]) -> u64 {
-    let mut plain: u64 = 0;
-    let mut weighed: u64 = 0;
-    let mut i = 0;
-    while i < buffer.len() {
-        plain = wrapping_add_u64(plain, wide(buffer[i]));
-        weighed = wrapping_add_u64(weighed, plain);
-        i += 1;
-    }
-    weighed
-}
-
 fn print(number: u64, what: &[u8]) {
     io::print_decimal(STDOUT_FILENO, number);
     io::write_all(STDOUT_FILENO, what);
 }
 
-fn print_told(told: Told, sum: u64) {
+fn print_told(told: Told) {
     let log = told.log;
     let start = log.start;
     let next = log.next;
@@ -113,15 +98,27 @@ fn print_told(told: Told, sum: u64) {
     print(told.dropped, b" records dropped; start ");
     print(start.0 as u64, b", used ");
     print(log.used as u64, b", next ");
-    print(next.0, b", checksum ");
-    print(sum, b"\n");
+    print(next.0, b"\n");
+}
+
+// The oldest line that is held, as a reader gets it.
+fn print_oldest(log: Log, buffer: &[u8], lent: &mut [u8]) {
+    let given = kmsg::read(Reader::new(log), log, buffer, lent);
+    let answer = given.answer;
+    let Answer::Done(bytes) = answer else {
+        io::write_all(STDOUT_FILENO, b"no record is held\n");
+        return;
+    };
+    io::write_all(STDOUT_FILENO, slices::front(lent, bytes as usize));
 }
 
 fn run(capacity: usize, times: u64, message: &[u8]) {
     let mut space = [0u8; Log::CAPACITY_MOST];
     let buffer = first(&mut space, capacity);
     let told = write_often(buffer, message, times);
-    print_told(told, checksum(buffer));
+    print_told(told);
+    let mut lent = [0u8; Heading::LINE_MOST];
+    print_oldest(told.log, buffer, &mut lent);
 }
 
 fn main() {

@@ -8,6 +8,8 @@ mod log;
 use log::Log;
 use std::io::Read;
 
+const LINE_MOST: usize = 3_887;
+
 fn main() {
     let mut input = Vec::new();
     std::io::stdin().read_to_end(&mut input).expect("standard input");
@@ -26,12 +28,10 @@ fn main() {
         records_dropped += dropped;
     }
     let (start, used, next) = (log.start(), log.used(), log.next());
-    let (mut plain, mut weighed) = (0u64, 0u64);
-    for &b in &buffer {
-        plain = plain.wrapping_add(b.into());
-        weighed = weighed.wrapping_add(plain);
+    println!("{answered} bytes answered, {records_dropped} records dropped; start {start}, used {used}, next {next}");
+    let mut lent = [0; LINE_MOST];
+    match log.read(&mut log.first(), &mut lent) {
+        Ok(length) => print!("{}", std::str::from_utf8(&lent[..length]).expect("a line is ASCII")),
+        Err(_) => println!("no record is held"),
     }
-    println!(
-        "{answered} bytes answered, {records_dropped} records dropped; start {start}, used {used}, next {next}, checksum {weighed}"
-    );
 }
