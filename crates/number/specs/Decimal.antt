@@ -20,6 +20,10 @@ digitsOf (suc fuel) n =
 unfoldable pub decimal : ℕ → List ℕ
 decimal n = digitsOf n n
 
+-- a number below 100 as two digits, the first of which may be 0
+abbrev pub twoDigits : ℕ → List ℕ
+twoDigits n = (48 + n / 10) ∷ (48 + n % 10) ∷ []
+
 -- ---- reading
 
 abbrev pub isDigit : ℕ → Bool

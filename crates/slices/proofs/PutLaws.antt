@@ -6,7 +6,7 @@ use native.Mathlib.Omega.{arith}
 use native.Mathlib.Nat.{add-assoc, add-zero}
 use native.Mathlib.Numerals.{add-one}
 use lib.ListN.{length, getD, take, drop, set, length-append, length-set, drop-of-length-le}
-use lib.Seq.{sets, sets-eq, length-sets, drop-cons, take-set-le, drop-set-lt, getD-set-same}
+use lib.Seq.{sets, sets-eq, length-sets, length-take-le, drop-cons, drop-at, take-append-le, take-take}
 use mathlib.Core.Bool.{Bool, true, false}
 use lib.Dec.{leb}
 use native.Mathlib.Decide.{decLe}
@@ -37,21 +37,16 @@ put-append out at xs ys h =
     rw (← sets-put out at xs a, ← sets-put (sets out at xs) (at + length xs) ys b, ← sets-put out at (xs ++ ys) c)
     (sym (sets-append xs ys out at))
 
--- a byte stored behind where a run is to be put is the run's last
-pub put-last : (out : List ℕ) (at : ℕ) (xs : List ℕ) (x : ℕ) → at + length xs < length out
-    → put (set out (at + length xs) x) at xs ≡ put out at (xs ++ (x ∷ []))
-put-last out at xs x h =
-    let k : at + length xs < length (set out (at + length xs) x) = rw length-set h in
-    let e : at + (length xs + 1) ≡ suc (at + length xs) = omega arith in
-    rw (
-      take-set-le at out (at + length xs) x (omega arith),
-      drop-cons (set out (at + length xs) x) (at + length xs) 0 k,
-      getD-set-same out (at + length xs) x 0 h,
-      drop-set-lt (suc (at + length xs)) out (at + length xs) x (omega arith),
-      length-append,
-      e,
-      append-assoc,
-    )
+-- a run put behind where another is to be put: the two as one
+pub put-behind : (out : List ℕ) (at : ℕ) (xs ys : List ℕ) → at + (length xs + length ys) ≤ length out
+    → put (put out (at + length xs) ys) at xs ≡ put out at (xs ++ ys)
+put-behind out at xs ys h =
+    let l : length (take (at + length xs) out) ≡ at + length xs = length-take-le (at + length xs) out (omega arith) in
+    let rest : List ℕ = ys ++ drop (at + length xs + length ys) out in
+    let t : take at (take (at + length xs) out ++ rest) ≡ take at out =
+    take-append-le at (take (at + length xs) out) rest (rw l (omega arith)) ∙ take-take at (at + length xs) out (omega arith) in
+    let d : drop (at + length xs) (take (at + length xs) out ++ rest) ≡ rest = drop-at (take (at + length xs) out) rest (at + length xs) l in
+    rw (t, d, length-append, append-assoc, add-assoc)
 
 pub put-none : (out : List ℕ) (at : ℕ) → at ≤ length out → put out at [] ≡ out
 put-none out at h = sym (sets-put out at [] (omega arith))

@@ -1,40 +1,73 @@
--- `number::decimal_length` meets its contract: the powers of ten up to a number count its digits.
+-- `number::decimal_length` meets its contract: the range that a number lies in says how many digits it has, but for those that are counted.
+use mathlib.Core.Path.{refl}
 use native.Mathlib.Omega.{arith}
-use mathlib.Core.Path.{_≡_}
-use Prim.Native.Nat.{_-_}
-use lib.ListN.{length}
-use Rattle.number.specs.Decimal.{decimal}
-use Rattle.number.proofs.PrintLaws.{Counting, count-begin, count-on, count-end, power-some, word-digits}
+use borrow.Author.Needs.{needs}
+use Rattle.number.proofs.DecimalLaws.{decimal-some, decimal-least, decimal-most}
+use Rattle.number.proofs.PrintLaws.{count-one, digits-between, word-digits}
 use Rattle.number.proofs.decimal_length.Statement.{statement}
 use Rattle.number.proofs.decimal_length.Tie as tie
 
-abbrev Inv-loop : tie.InvT-loop
-Inv-loop value tenth power₀ digits₀ power digits = Counting value power digits
+reached-requires : tie.Need-reached-requires
+reached-requires c κs = search needs
 
-abbrev μ-loop : tie.MeasureT-loop
-μ-loop value tenth power₀ digits₀ power digits = value - power
+add-result : tie.Need-add-result
+add-result c = omega (arith, c .reached .ensures .1)
 
-loop-holds : tie.Need-loop-holds Inv-loop μ-loop
-loop-holds c = count-begin
-
-mul-power : tie.Need-mul-power Inv-loop μ-loop
-mul-power c = omega arith
-
-add-digits : tie.Need-add-digits Inv-loop μ-loop
-add-digits c = omega (arith, word-digits (c .before .before .args .value) (omega arith))
-
-loop-less : tie.Need-loop-less Inv-loop μ-loop
-loop-less c = omega (arith, power-some (c .before .loop .inv))
-
-loop-again : tie.Need-loop-again Inv-loop μ-loop
-loop-again c = count-on (c .before .loop .inv) (omega arith)
-
-returns : tie.Need-returns Inv-loop μ-loop
+returns : tie.Need-returns
 returns c =
-    let e : c .before .loop .digits ≡ length (decimal (c .before .before .args .value)) = count-end (c .before .loop .inv) (omega arith) in
-    (e, omega (arith, word-digits (c .before .before .args .value) (omega arith)))
+    let v = c .before .before .args .value in
+    (rw (c .reached .ensures .0) (count-one 1 v 10 (omega arith) refl (decimal-some v) (decimal-most 1 v (omega arith))), omega (arith, c .reached .ensures .1))
+
+reached-requires-2 : tie.Need-reached-requires-2
+reached-requires-2 c κs = search needs
+
+add-result-2 : tie.Need-add-result-2
+add-result-2 c = omega (arith, c .reached2 .ensures .1)
+
+returns-2 : tie.Need-returns-2
+returns-2 c =
+    let v = c .before .before .before .args .value in
+    (rw (c .reached2 .ensures .0) (count-one 3 v 1000 (omega arith) refl (decimal-least 2 v (omega arith)) (decimal-most 3 v (omega arith))), omega (arith, c .reached2 .ensures .1))
+
+digits-from-requires : tie.Need-digits-from-requires
+digits-from-requires c κs = (digits-between 4 (c .before .before .before .args .value) (omega arith) (omega arith), (refl, omega arith, omega arith))
+
+returns-3 : tie.Need-returns-3
+returns-3 c = (c .digits-from .ensures, omega (arith, c .digits-from .ensures, word-digits (c .before .before .before .before .args .value) (omega arith)))
+
+digits-from-requires-2 : tie.Need-digits-from-requires-2
+digits-from-requires-2 c κs = (digits-between 8 (c .before .before .before .before .args .value) (omega arith) (omega arith), (refl, omega arith, omega arith))
+
+returns-4 : tie.Need-returns-4
+returns-4 c = (c .digits-from2 .ensures, omega (arith, c .digits-from2 .ensures, word-digits (c .before .before .before .before .before .args .value) (omega arith)))
+
+digits-from-requires-3 : tie.Need-digits-from-requires-3
+digits-from-requires-3 c κs = (digits-between 12 (c .before .before .before .before .before .args .value) (omega arith) (omega arith), (refl, omega arith, omega arith))
+
+returns-5 : tie.Need-returns-5
+returns-5 c = (c .digits-from3 .ensures, omega (arith, c .digits-from3 .ensures, word-digits (c .before .before .before .before .before .before .args .value) (omega arith)))
+
+digits-from-requires-4 : tie.Need-digits-from-requires-4
+digits-from-requires-4 c κs = (digits-between 16 (c .before .before .before .before .before .args .value) (omega arith) (omega arith), (refl, omega arith, omega arith))
+
+returns-6 : tie.Need-returns-6
+returns-6 c = (c .digits-from4 .ensures, omega (arith, c .digits-from4 .ensures, word-digits (c .before .before .before .before .before .before .args .value) (omega arith)))
 
 pub decimal-length-spec : {M : Type 1} → statement M
 decimal-length-spec =
     tie.close
-    (tie.spec Inv-loop μ-loop loop-holds mul-power add-digits loop-less loop-again returns)
+    (tie.spec
+    reached-requires
+    add-result
+    returns
+    reached-requires-2
+    add-result-2
+    returns-2
+    digits-from-requires
+    returns-3
+    digits-from-requires-2
+    returns-4
+    digits-from-requires-3
+    returns-5
+    digits-from-requires-4
+    returns-6)

@@ -1,92 +1,70 @@
--- `number::print_decimal` meets its contract: the digits that are left, put before those that were put, make all of them.
+-- `number::print_decimal` meets its contract: counted, room asked for, and written.
+use Prim.Native.Nat.{_+_, _≤_}
 use native.Mathlib.Omega.{arith}
 use denote.Ref.{now}
-use lib.ListN.{length-set}
 use borrow.Author.Needs.{needs}
 use borrow.Author.Tests.{not-true, not-false}
-use Rattle.slices.proofs.PutLaws.{no-room-counted, some-room}
+use lib.ListN.{length}
+use Rattle.slices.proofs.PutLaws.{placed-room, no-room-counted, some-room}
 use Rattle.number.specs.Decimal.{decimal}
-use Rattle.number.proofs.PrintLaws.{Printing, print-begin, print-on, print-end, some-place}
+use Rattle.number.proofs.PrintLaws.{put-keeps}
 use Rattle.number.proofs.print_decimal.Statement.{statement}
 use Rattle.number.proofs.print_decimal.Tie as tie
 
-abbrev Inv-loop : tie.InvT-loop
-Inv-loop value out₀ at digits end place₀ v₀ out place v = Printing out₀ at value out place v
+print-digit-requires : tie.Need-print-digit-requires
+print-digit-requires c κs = omega arith
 
-abbrev μ-loop : tie.MeasureT-loop
-μ-loop value out₀ at digits end place₀ v₀ out place v = v
+same-length : tie.Need-same-length
+same-length c = search needs
 
-decimal-length-requires : tie.Need-decimal-length-requires Inv-loop μ-loop
+returns : tie.Need-returns
+returns c = c .before .before .print-digit .ensures
+
+decimal-length-requires : tie.Need-decimal-length-requires
 decimal-length-requires c κs = search needs
 
-has-room-requires : tie.Need-has-room-requires Inv-loop μ-loop
+has-room-requires : tie.Need-has-room-requires
 has-room-requires c κs = search needs
 
-returns : tie.Need-returns Inv-loop μ-loop
-returns c =
-    let a = c .before .before .before .before .args in
+returns-2 : tie.Need-returns-2
+returns-2 c =
+    let a = c .before .before .before .before .before .args in
     no-room-counted (now (a .out)) (a .at) (decimal (a .value)) (c .before .before .decimal-length .ensures .0) (c .before .has-room .ensures)
-    (not-true _ (c .if1 .taken))
+    (not-true _ (c .if2 .taken))
 
-loop-holds : tie.Need-loop-holds Inv-loop μ-loop
-loop-holds c =
-    print-begin (c .before .before .decimal-length .ensures .0) (some-room (c .before .has-room .ensures) (not-false _ (c .if1 .left)))
+-- the digits, counted, fit
+fits : (c : tie.After-write-decimal-arg) → let s = c .before .before .before .before .before .before in s .args .at + length (decimal (s .args .value)) ≤ length (now (s .args .out))
+fits c =
+    let s = c .before .before .before .before .before .before in
+    let r : s .args .at + c .before .before .before .decimal-length .result ≤ length (now (s .args .out)) =
+    some-room (c .before .before .has-room .ensures) (not-false _ (c .before .if2 .left)) in
+    omega (arith, c .before .before .before .decimal-length .ensures .0)
 
-add-end : tie.Need-add-end Inv-loop μ-loop
-add-end c = omega (arith, loop-holds c .within)
+write-decimal-requires : tie.Need-write-decimal-requires
+write-decimal-requires c κs = (c .before .before .before .decimal-length .ensures .0, some-room (c .before .before .has-room .ensures) (not-false _ (c .before .if2 .left)))
 
-sub-place : tie.Need-sub-place Inv-loop μ-loop
-sub-place c = omega (arith, some-place (c .before .loop .inv))
+add-end : tie.Need-add-end
+add-end c = omega (arith, fits (c .before .before .before), c .before .before .before .before .before .before .decimal-length .ensures .0)
 
-cast-out : tie.Need-cast-out Inv-loop μ-loop
-cast-out c = omega arith
+same-length-2 : tie.Need-same-length-2
+same-length-2 c = put-keeps _ _ (decimal (c .before .before .before .before .before .before .before .before .before .args .value)) (c .before .before .write-decimal .ensures) (fits (c .before .before .before))
 
-add-out : tie.Need-add-out Inv-loop μ-loop
-add-out c = omega arith
-
-slice-write-out : tie.Need-slice-write-out Inv-loop μ-loop
-slice-write-out c = omega (arith, some-place (c .before .loop .inv))
-
-loop-less : tie.Need-loop-less Inv-loop μ-loop
-loop-less c = omega arith
-
-loop-again : tie.Need-loop-again Inv-loop μ-loop
-loop-again c = print-on (c .before .loop .inv) (omega arith)
-
-cast-out-2 : tie.Need-cast-out-2 Inv-loop μ-loop
-cast-out-2 c = omega arith
-
-add-out-2 : tie.Need-add-out-2 Inv-loop μ-loop
-add-out-2 c = omega arith
-
-slice-write-out-2 : tie.Need-slice-write-out-2 Inv-loop μ-loop
-slice-write-out-2 c = omega (arith, some-place (c .before .loop .inv))
-
-same-length : tie.Need-same-length Inv-loop μ-loop
-same-length c = simp length-set (c .before .loop .inv .size)
-
-returns-2 : tie.Need-returns-2 Inv-loop μ-loop
-returns-2 c = print-end (c .before .loop .inv) (c .before .before .before .before .decimal-length .ensures .0) (omega arith)
+returns-3 : tie.Need-returns-3
+returns-3 c =
+    let s = c .before .before .before .before .before .before .before .before .before in
+    rw (placed-room (now (s .args .out)) (s .args .at) (decimal (s .args .value)) (fits (c .before .before .before)), c .before .before .before .before .before .before .decimal-length .ensures .0, c .before .before .write-decimal .ensures)
 
 pub print-decimal-spec : {M : Type 1} → statement M
 print-decimal-spec =
     tie.close
     (tie.spec
-    Inv-loop
-    μ-loop
+    print-digit-requires
+    same-length
+    returns
     decimal-length-requires
     has-room-requires
-    returns
+    returns-2
+    write-decimal-requires
     add-end
-    loop-holds
-    sub-place
-    cast-out
-    add-out
-    slice-write-out
-    loop-less
-    loop-again
-    cast-out-2
-    add-out-2
-    slice-write-out-2
-    same-length
-    returns-2)
+    same-length-2
+    returns-3)
