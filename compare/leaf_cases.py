@@ -10,6 +10,8 @@ out = []
 def decimal_cases():
     for n in (0, 9, 10, 999, 2**32, 10**19 - 1, 10**19, WORD):
         out.append(f"decimal {n}")
+    for n in (10**k + d for k in range(20) for d in (-1, 0, 1)):
+        out.append(f"decimal {n}")
     out.append("decimal in 19 bytes no room")
     # T10, and T1's time
     out.append("T10 999 ns 0")

@@ -1,6 +1,7 @@
 // Plain decimal: document 01's numbers, and those at the edge of 64 bits.
 use crate::say;
 use number::Decimal;
+ghost use Prim.Native.Nat.{_^_, _≤_, _<_};
 
 // A number as it is printed.
 fn print(value: u64) {
@@ -11,7 +12,26 @@ fn print(value: u64) {
     say::line();
 }
 
-// The same with one byte too few.
+// A power of ten and its neighbours: where the number of digits changes.
+fn print_around(power: u64)
+    requires { ⌜ (0 < power) × (power ≤ 10 ^ 19) ⌝ }
+{
+    print(power - 1);
+    print(power);
+    print(power + 1);
+}
+
+// All the powers of ten that fit 64 bits.
+fn print_powers() {
+    let mut power: u64 = 1;
+    while power <= 1000000000000000000 {
+        print_around(power);
+        power = power * 10;
+    }
+    print_around(power);
+}
+
+// The largest number with one byte too few.
 fn print_short() {
     let mut out = [0u8; 19];
     say::text(b"decimal in 19 bytes ");
@@ -53,6 +73,7 @@ fn printed() {
     print(9999999999999999999);
     print(10000000000000000000);
     print(18446744073709551615);
+    print_powers();
     print_short();
     microseconds(999);
     microseconds(1000);
