@@ -7,9 +7,10 @@ RUN_SECONDS = 0.25
 
 
 def run(program, given):
-    """The user time of one run, and what it wrote."""
+    """The user time of one run, and what it wrote. A program is its path, or a list: its path and its arguments."""
+    words = [program] if isinstance(program, str) else program
     before = resource.getrusage(resource.RUSAGE_CHILDREN).ru_utime
-    wrote = subprocess.run([program], input=given, capture_output=True, check=True).stdout.decode()
+    wrote = subprocess.run(words, input=given, capture_output=True, check=True).stdout.decode()
     return resource.getrusage(resource.RUSAGE_CHILDREN).ru_utime - before, wrote
 
 
@@ -21,17 +22,18 @@ def times_for(program, given):
     return times
 
 
-def best(programs, given):
-    """The least user time of each, the programs in turn."""
+def best(programs, givens):
+    """The least user time of each on its own input, the programs in turn."""
     least = [float("inf")] * len(programs)
     for _ in range(RUNS):
         for i, program in enumerate(programs):
-            least[i] = min(least[i], run(program, given)[0])
+            least[i] = min(least[i], run(program, givens[i])[0])
     return least
 
 
 def each(programs, given):
-    """What one time costs each program, in seconds: many times, less none."""
-    times = times_for(programs[-1], given)
-    many, none = best(programs, given(times)), best(programs, given(0))
-    return [(m - n) / times for m, n in zip(many, none)]
+    """What one time costs each program, in seconds: many times, less none. Each has as many times as its own run needs: user time is counted in ticks, and
+    where a program takes a tenth of another's time, its run would have few of them."""
+    times = [times_for(program, given) for program in programs]
+    many, none = best(programs, [given(n) for n in times]), best(programs, [given(0)] * len(programs))
+    return [(m - n) / t for m, n, t in zip(many, none, times)]
