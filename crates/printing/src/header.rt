@@ -1,5 +1,7 @@
-// The header of a line, as a whole line without text: measured and written by `line`.
+// The header of a line, as a whole line without text: put by `line` if there is room for it.
 use record::Heading;
+use slices::Placed;
+use std::num::wrapping_add_usize;
 
 // Puts a header at a place, and answers the place behind it.
 pub fn header(prefix: u64, sequence: u64, time: u64, out: &mut [u8], at: usize) -> usize {
@@ -16,10 +18,9 @@ pub fn header(prefix: u64, sequence: u64, time: u64, out: &mut [u8], at: usize) 
         zero: 0,
     };
     let none = b"";
-    let bytes = line::line_length(h, none, none, none, none);
     let room = &mut out[at..];
-    if room.len() < bytes {
+    let Placed::End(bytes) = line::place_line(h, none, none, none, none, room) else {
         return at;
-    }
-    at + line::write_line(h, none, none, none, none, room)
+    };
+    wrapping_add_usize(at, bytes)
 }
