@@ -5,7 +5,6 @@ use native.Mathlib.Omega.{arith}
 use borrow.Author.Needs.{needs}
 use denote.Ref.{now}
 use Rattle.slices.proofs.PutLaws.{sets-put}
-use Rattle.number.specs.Decimal.{decimal}
 use Rattle.number.proofs.DecimalLaws.{decimal-digit, decimal-some}
 use Rattle.number.proofs.PrintLaws.{decimal-two}
 use Rattle.number.proofs.write_front.Statement.{statement}
