@@ -6,7 +6,7 @@ help:
 	@echo "make run INPUT=file      the board after one's own lines"
 	@echo "make replay              what a box answers to a sample script of calls (samples/rehearsal.script)"
 	@echo "make replay INPUT=file   the same for one's own script"
-	@echo "make test                the whole gate: every crate proved, every wrong program refused, every program run and compared; some twenty-five minutes on 2 cores"
+	@echo "make test                the whole gate: every crate proved, every wrong program refused, every program run and compared; some thirty minutes on 2 cores"
 	@echo
 	@echo "README.md says what the calls are, docs/ARCHITECTURE.md where things stand."
 
