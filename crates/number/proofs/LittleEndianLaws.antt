@@ -7,7 +7,7 @@ use native.Mathlib.Omega.{arith}
 use native.Mathlib.Nat.{zero-add, suc-add, pow-succ', mul-assoc}
 use lib.ListN.{length, getD, take, drop, length-drop}
 use lib.Seq.{drop-append-le, drop-append-add, drop-drop}
-use borrow.Author.Tests.{ltb-true}
+use borrow.Author.Tests.{ltb-true, lt-ltb}
 use Rattle.slices.specs.Tests.{isByte, allBytes}
 use Rattle.slices.proofs.Bools.{every-first, every-other}
 use Rattle.number.specs.LittleEndian.{littleEndian, little}
@@ -32,6 +32,11 @@ little-forth (suc n) (x ∷ s) h b =
     let m : (x + 256 * little n s) % 256 ≡ x = omega arith in
     let d : (x + 256 * little n s) / 256 ≡ little n s = omega arith in
     rw (m, d, little-forth n s (omega arith) (every-other isByte x s b))
+
+-- a number is written as bytes
+pub littleEndian-bytes : (n x : ℕ) → allBytes (littleEndian n x) ≡ true
+littleEndian-bytes zero x = refl
+littleEndian-bytes (suc n) x = rw (lt-ltb (x % 256) 256 (omega arith)) (littleEndian-bytes n (x / 256))
 
 -- bytes give a number that fits
 pub little-fits : (n : ℕ) (s : List ℕ) → allBytes s ≡ true → little n s < 256 ^ n

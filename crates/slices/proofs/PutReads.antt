@@ -8,7 +8,7 @@ use lib.Seq.{drop-at, take-append-seam, length-take-le, drop-append-le, take-app
 use Rattle.slices.specs.Put.{put}
 
 -- a part that lies in front doesn't see what is behind
-in-front : (k n : ℕ) (xs ys zs : List ℕ) → k + n ≤ length xs → take n (drop k (xs ++ ys)) ≡ take n (drop k (xs ++ zs))
+pub in-front : (k n : ℕ) (xs ys zs : List ℕ) → k + n ≤ length xs → take n (drop k (xs ++ ys)) ≡ take n (drop k (xs ++ zs))
 in-front k n xs ys zs h =
     rw (
       drop-append-le k xs ys (omega arith),
