@@ -1,7 +1,8 @@
 #!/usr/bin/env python3
-"""What crates/leaves writes for the leaf crates, worked out from document 01 with Python's own numbers and strings."""
+"""What crates/leaves writes for the leaf crates, worked out from document 01 with Python's own numbers and strings, and zlib's CRC-32."""
 import re
 import sys
+import zlib
 
 WORD = 2**64 - 1
 out = []
@@ -55,7 +56,19 @@ def ring_cases():
             out.append(f"ring {start} {used}: {''.join(ring)} {straight}")
 
 
+def crc_cases():
+    room, made, n = 1101, bytearray(), 1
+    for _ in range(room):
+        n = n % 2**32 * 1664525 + 1013904223
+        made.append(n // 2**24 % 256)
+    out.append(f"crc digits 9 {zlib.crc32(b'123456789')}")
+    for what, given, step in (("zeros", bytes(room), 99), ("ones", b"\xff" * room, 99), ("made", bytes(made), 1)):
+        for length in range(0, room, step):
+            out.append(f"crc {what} {length} {zlib.crc32(given[:length])}")
+
+
 decimal_cases()
 escape_cases()
 ring_cases()
+crc_cases()
 sys.stdout.write("\n".join(out) + "\n")
