@@ -42,7 +42,7 @@ hand() {
     held "$1"
 }
 
-# script SEED LINES [wide]
+# script SEED LINES [wide|trail]
 script() {
     "$second" script "$@" >"$room/in"
     "$second" answer <"$room/in" >"$room/want"
@@ -79,6 +79,16 @@ hand 'a long line without its newline'
 # ---- nothing is there before it is made
 case_of 'before a log' 'numbers\ncheck\nreader\nnumber start 0\npoke 0 00\npeek 0 1\noutside 0 -\nbox 1 1 0 - -\nat 0 0\nwhere 0\nread 0 0\nseek 0 0 0\ncommand 10 0 1 0 0\n' '?\n?\n?\n?\n?\n?\n?\n?\n?\n?\n?\n?\n?\n'
 case_of 'before a board' 'slot 16\ndeliver -\nline -\nboard 7\nslot 16\nslot 15\nslot 24\n' '?\n?\n3\nboard\nnothing 0\n?\n?\n'
+case_of 'before a disk' 'cut 1\npatch 0 00\ntrail\nnext 960\nsave 1 512\ndisk 512 0\ncut 1\nnext 960\nsave 1 512\n' '?\n?\n?\n?\n?\ndisk\n?\n?\n?\n'
+case_of 'a reader that is gone' 'disk 512 0\ntrail\nnext 960\ncut 1\nnext 960\ndisk 0 256\nnext 960\ndisk 0 0\nnext 960\ntrail\nnext 959\nnext 960\nnext 960\n' 'disk\ntrail\nstop check 0\n?\nstop check 0\n?\nstop check 0\ndisk\n?\ntrail\nroom\nend\nend\n'
+
+# ---- saved trails: ranges, and what a log and a refused save leave
+case_of 'ranges of saves and files' 'log 1024 0\nsave 4294967296 512\nsave -1 512\nsave 1 90001\nsave 1\nsave 4294967295 0\ndisk 90001 0\ndisk 0 256\ndisk 90000 255\ncut 1\n' 'log\n?\n?\n?\n?\n-14 -\n?\n?\ndisk\n?\n'
+case_of 'ranges of patches and results' 'disk 90000 255\npatch 0 0\npatch 90000 00\npatch 89999 0000\npatch 18446744073709551615 00\npatch 18446744073709551616 00\npatch 0 -\ntrail 0\ntrail\nnext 5001\nnext 5000\nnext 959\n' 'disk\n?\npatched\npatched\npatched\n?\npatched\n?\ntrail\n?\nstop number 0\nroom\n'
+# The empty log's block for save 7: the check is zlib's.
+printf 'log 1024 7\nsave 7 512\nlog 1023 7\nsave 8 512\ndisk 513 0\ncut 0\ncut 18446744073709551615\ntrail\nlog 1024 7\nsave 8 511\nnext 960\ncut 1\nnext 960\ntrail\nnext 960\n' >"$room/in"
+{ printf 'log\n512 000000000000000007000000'; many 992 0; printf '23c94bd8\nlog\n-77 -\ndisk\ncut 513\ncut 513\ntrail\nlog\n-14 -\nend\ncut 513\n?\ntrail\nend\n'; } >"$room/want"
+hand 'an image, a file and a reader when a log comes'
 
 # ---- readers
 { echo 'log 1024 0'; for i in $(seq 17); do echo reader; done; printf 'where 15\nwhere 16\nlog 1024 0\nwhere 0\n'; } >"$room/in"
@@ -101,6 +111,8 @@ script 102 4000
 script 103 4000
 script 104 4000
 script 105 4000 wide
+script 106 4000 trail
+script 107 4000 trail
 
 # ---- input that comes in pieces
 printf 'yes\nno\n' >"$room/want"

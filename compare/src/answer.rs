@@ -3,13 +3,16 @@
 use crate::board::{Board, BOARD, FIRST_CHANNEL, SLOTS};
 use crate::log::{to_console, Log, Misfit};
 use crate::message::{hex_digit, read_line, BLOCK};
-use crate::record::BULK;
+use crate::record::{BULK, FLAG};
+use crate::trail::{save, Last, Next, Reason, Trail, BLOCK as SAVED};
 use std::io::{self, BufRead, Write};
 
 /// Most bytes of a script's line, its newline aside.
 pub const LINE: usize = 40_000;
 /// Most readers at once.
 pub const READERS: usize = 16;
+/// Most bytes of a file, and of what is lent to a save.
+const FILE: u64 = 90_000;
 /// Lent buffers are filled with this before each call.
 const LENT: u8 = 165;
 
@@ -18,6 +21,10 @@ pub struct Machine {
     pub log: Option<Log>,
     pub readers: Vec<u64>,
     pub board: Option<Board>,
+    /// What the last good save wrote, the file, and the reader on it.
+    pub image: Option<Vec<u8>>,
+    pub file: Option<Vec<u8>>,
+    pub trail: Option<Trail>,
 }
 
 /// Answers a whole script.
@@ -193,6 +200,56 @@ impl Machine {
                 })
             }
             ["line", message] => Some(line(&unhex(message)?)),
+            ["save", number, length] => {
+                let number = num_to(number, u32::MAX.into())? as u32;
+                let mut lent = vec![LENT; num_to(length, FILE)? as usize];
+                let log = self.log.as_mut()?;
+                let before = log.bytes().to_vec();
+                let answer = save(log, number, &mut lent);
+                let count = counted(answer);
+                let changed = !stayed(&lent, count) || log.bytes() != before;
+                if answer >= 0 {
+                    self.image = Some(lent[..count].to_vec());
+                }
+                let bytes = hex(&lent[..count]);
+                Some(format!("{answer} {bytes}{}", mark(changed)))
+            }
+            ["disk", length, fill] => {
+                let length = num_to(length, FILE)? as usize;
+                let fill = num_to(fill, 255)? as u8;
+                self.file = Some(vec![fill; length]);
+                self.trail = None;
+                Some("disk".into())
+            }
+            ["cut", blocks] => {
+                let blocks = num(blocks)?;
+                let (file, image) = (self.file.as_mut()?, self.image.as_ref()?);
+                let whole = (image.len() / SAVED) as u64;
+                let written = &image[..blocks.min(whole) as usize * SAVED];
+                let behind = file.split_off(written.len().min(file.len()));
+                *file = [written, &behind].concat();
+                self.trail = None;
+                Some(format!("cut {}", file.len()))
+            }
+            ["patch", place, bytes] => {
+                let (place, bytes) = (num(place)?, unhex(bytes)?);
+                let here = self.file.as_mut()?.iter_mut();
+                let place = usize::try_from(place).unwrap_or(usize::MAX);
+                for (old, new) in here.skip(place).zip(bytes) {
+                    *old = new;
+                }
+                Some("patched".into())
+            }
+            ["trail"] => {
+                self.file.as_ref()?;
+                self.trail = Some(Trail::default());
+                Some("trail".into())
+            }
+            ["next", length] => {
+                let mut result = vec![LENT; num_to(length, 5_000)? as usize];
+                let trail = self.trail.as_mut()?;
+                Some(next(trail, self.file.as_ref()?, &mut result))
+            }
             _ => None,
         }
     }
@@ -257,6 +314,38 @@ fn line(message: &[u8]) -> String {
         hex(&result[text..text + dictionary]),
         mark(changed)
     )
+}
+
+fn next(trail: &mut Trail, file: &[u8], result: &mut [u8]) -> String {
+    let (said, count) = match trail.next(file, result) {
+        Next::Room => ("room".into(), 0),
+        Next::Last(Last::End) => ("end".into(), 0),
+        Next::Last(Last::Stop(reason, place)) => {
+            let reason = match reason {
+                Reason::Number => "number",
+                Reason::Save => "save",
+                Reason::Count => "count",
+                Reason::Check => "check",
+                Reason::Record => "record",
+                Reason::Unfinished => "unfinished",
+            };
+            (format!("stop {reason} {place}"), 0)
+        }
+        Next::Record(record) => {
+            let count = record.text.len() + record.dictionary.len();
+            let (text, dictionary) = result[..count].split_at(record.text.len());
+            let said = format!(
+                "record {} {} {} {FLAG} {} {}",
+                record.sequence,
+                record.time,
+                record.prefix,
+                hex(text),
+                hex(dictionary)
+            );
+            (said, count)
+        }
+    };
+    format!("{said}{}", mark(!stayed(result, count)))
 }
 
 /// How many lent bytes an answer counts.

@@ -9,12 +9,14 @@ mod record;
 mod script;
 #[cfg(test)]
 mod tests;
+mod trail;
 
+use script::Kind;
 use std::io::{self, BufWriter, ErrorKind, Write};
 use std::process::ExitCode;
 
 const USAGE: &str = "usage: compare answer
-       compare script SEED N [wide]";
+       compare script SEED N [wide|trail]";
 
 fn main() -> ExitCode {
     let words: Vec<String> = std::env::args().skip(1).collect();
@@ -22,8 +24,9 @@ fn main() -> ExitCode {
     let mut output = BufWriter::new(io::stdout().lock());
     let done = match words[..] {
         ["answer"] => answer::replay(&mut io::stdin().lock(), &mut output),
-        ["script", seed, lines] => write_script(seed, lines, false, &mut output),
-        ["script", seed, lines, "wide"] => write_script(seed, lines, true, &mut output),
+        ["script", seed, lines] => write_script(seed, lines, Kind::Plain, &mut output),
+        ["script", seed, lines, "wide"] => write_script(seed, lines, Kind::Wide, &mut output),
+        ["script", seed, lines, "trail"] => write_script(seed, lines, Kind::Trail, &mut output),
         _ => Err(io::Error::new(ErrorKind::InvalidInput, USAGE)),
     };
     match done {
@@ -37,9 +40,9 @@ fn main() -> ExitCode {
     }
 }
 
-fn write_script(seed: &str, lines: &str, wide: bool, output: &mut dyn Write) -> io::Result<()> {
+fn write_script(seed: &str, lines: &str, kind: Kind, output: &mut dyn Write) -> io::Result<()> {
     let (Ok(seed), Ok(lines)) = (seed.parse(), lines.parse()) else {
         return Err(io::Error::new(ErrorKind::InvalidInput, USAGE));
     };
-    script::write_script(seed, lines, wide, output)
+    script::write_script(seed, lines, kind, output)
 }

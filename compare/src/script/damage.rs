@@ -245,7 +245,7 @@ impl Script<'_> {
     }
 
     /// Breaks one rule of a record, or comes close to it.
-    fn flaw(&mut self, record: &mut Record) {
+    pub(super) fn flaw(&mut self, record: &mut Record) {
         const DICTIONARIES: &[&[u8]] = &[
             b"=",
             b"a",

@@ -5,6 +5,7 @@
 mod calls;
 mod damage;
 mod messages;
+mod trail;
 
 use crate::answer::{hex, Machine};
 use crate::log::{Log, Numbers};
@@ -12,25 +13,38 @@ use crate::random::Random;
 use crate::record::Record;
 use std::io::{self, Write};
 
-/// Writes `lines` lines. With `wide` it also writes numbers whose range the script's
-/// description leaves open.
-pub fn write_script(seed: u64, lines: u64, wide: bool, output: &mut dyn Write) -> io::Result<()> {
+/// What a script is made of.
+#[derive(Clone, Copy, PartialEq, Eq)]
+pub enum Kind {
+    /// Calls of every kind.
+    Plain,
+    /// The same, also with numbers whose range the script's description leaves open.
+    Wide,
+    /// Saved trails, and what they need.
+    Trail,
+}
+
+/// Writes `lines` lines.
+pub fn write_script(seed: u64, lines: u64, kind: Kind, output: &mut dyn Write) -> io::Result<()> {
     let mut script = Script {
         random: Random::new(seed),
         machine: Machine::default(),
         output,
         failure: None,
         left: lines,
-        wide,
+        wide: kind == Kind::Wide,
         over: false,
         clock: 5_000_999,
         style: Style::Mixed,
         pool: Vec::new(),
         main_channel: 16,
     };
-    script.opening();
+    script.opening(kind);
     while script.left > 0 {
-        script.chapter();
+        match kind {
+            Kind::Trail => script.trail_chapter(),
+            _ => script.chapter(),
+        }
         if let Some(error) = script.failure.take() {
             return Err(error);
         }
@@ -101,10 +115,20 @@ impl Script<'_> {
         self.log().check().is_ok()
     }
 
-    fn opening(&mut self) {
+    fn opening(&mut self, kind: Kind) {
         self.say("log 2048 165");
         // Kept also where not even one line was wanted.
         self.machine.answer(b"log 2048 165");
+        if kind == Kind::Trail {
+            for line in ["cut 1", "patch 0 00", "trail", "next 960", "disk 600 0"] {
+                self.say(line);
+            }
+            // There is a file, but neither an image nor a reader.
+            for line in ["cut 1", "next 960", "save 7 511", "cut 1", "save 7 512"] {
+                self.say(line);
+            }
+            return;
+        }
         for _ in 0..3 {
             self.say("reader");
         }
@@ -186,7 +210,7 @@ impl Script<'_> {
     }
 
     fn step(&mut self) {
-        match self.random.below(1_000) {
+        match self.random.below(1_010) {
             0..=199 => self.outside(),
             200..=309 => self.from_box(),
             310..=459 => self.read(),
@@ -205,19 +229,21 @@ impl Script<'_> {
             818..=822 => self.fresh_board(),
             823..=826 => self.all_slots(),
             827..=836 => self.odd_line(),
-            _ => self.delivery(),
+            837..=999 => self.delivery(),
+            _ => self.trail_scene(),
         }
     }
 
     /// Any call on the log.
     fn log_call(&mut self) {
-        match self.random.below(8) {
-            0 => self.outside(),
-            1 => self.from_box(),
-            2 | 3 => self.read(),
-            4 => self.move_reader(),
-            5 | 6 => self.command(),
-            _ => self.look(),
+        match self.random.below(17) {
+            0 | 1 => self.outside(),
+            2 | 3 => self.from_box(),
+            4..=7 => self.read(),
+            8 | 9 => self.move_reader(),
+            10..=13 => self.command(),
+            14 | 15 => self.look(),
+            _ => self.any_save(),
         }
     }
 
@@ -396,6 +422,37 @@ impl Script<'_> {
             "line",
             "line 0g",
             "line - -",
+            "save",
+            "save 1",
+            "save 1 90001",
+            "save 4294967296 512",
+            "save -1 512",
+            "save 1 -1",
+            "save 1 512 0",
+            "disk",
+            "disk 512",
+            "disk 90001 0",
+            "disk 512 256",
+            "disk -1 0",
+            "disk 512 0 0",
+            "cut",
+            "cut -1",
+            "cut x",
+            "cut 18446744073709551616",
+            "cut 1 1",
+            "patch",
+            "patch 0",
+            "patch 0 0",
+            "patch 0 FF",
+            "patch -1 00",
+            "patch 18446744073709551616 00",
+            "trail 0",
+            "trails",
+            "next",
+            "next 5001",
+            "next -1",
+            "next x",
+            "next 960 0",
         ];
         const WIDE: &[&str] = &[
             "log 01024 0",

@@ -7,6 +7,7 @@ mod refusals;
 mod replay;
 mod rules;
 mod scripts;
+mod trail;
 
 use crate::answer::{hex, Machine};
 

@@ -2,13 +2,18 @@
 
 use crate::answer::{Machine, LINE};
 use crate::log::walk;
-use crate::script::write_script;
+use crate::script::{write_script, Kind};
 use std::collections::BTreeSet;
 
-fn script(seed: u64, lines: u64, wide: bool) -> Vec<u8> {
+fn script_of(kind: Kind, seed: u64, lines: u64) -> Vec<u8> {
     let mut out = Vec::new();
-    write_script(seed, lines, wide, &mut out).unwrap();
+    write_script(seed, lines, kind, &mut out).unwrap();
     out
+}
+
+fn script(seed: u64, lines: u64, wide: bool) -> Vec<u8> {
+    let kind = if wide { Kind::Wide } else { Kind::Plain };
+    script_of(kind, seed, lines)
 }
 
 #[test]
@@ -73,6 +78,65 @@ fn long_runs() {
             let case = format!("{word} {answer}");
             assert!(met.contains(&case), "{case}");
         }
+    }
+}
+
+/// Trails meet every kind of answer, and no reader reads on behind a patch.
+#[test]
+fn trail_runs() {
+    let whole = script_of(Kind::Trail, 3, 900);
+    for lines in 0..900 {
+        let script = script_of(Kind::Trail, 3, lines);
+        assert!(whole.starts_with(&script));
+        let count = script.iter().filter(|&&b| b == b'\n').count();
+        assert_eq!(count as u64, lines);
+    }
+    let mut met = BTreeSet::new();
+    for (kind, seed) in [(Kind::Trail, 0), (Kind::Trail, 1), (Kind::Plain, 2)] {
+        let mut machine = Machine::default();
+        let mut patched = false;
+        for line in script_of(kind, seed, 6_000).split(|&b| b == b'\n') {
+            assert!(line.len() <= LINE);
+            let answer = machine.answer(line);
+            assert!(!answer.ends_with("CHANGED"), "{answer}");
+            let word = String::from_utf8_lossy(line.split(|&b| b == b' ').next().unwrap());
+            match (&*word, &*answer) {
+                (_, "?") => (),
+                ("patch", _) => patched = true,
+                ("disk" | "cut" | "trail", _) => patched = false,
+                ("next", _) => assert!(!patched),
+                _ => (),
+            }
+            if matches!(&*word, "save" | "next" | "cut") {
+                let mut words = answer.split(' ');
+                let said = match (&*word, words.next().unwrap()) {
+                    ("next", "stop") => format!("stop {}", words.next().unwrap()),
+                    ("save", count) if !count.starts_with('-') => count.into(),
+                    (_, first) => first.into(),
+                };
+                met.insert(format!("{word} {said}"));
+            }
+        }
+    }
+    for case in [
+        "save -14",
+        "save -77",
+        "save 512",
+        "save 1024",
+        "save 68096",
+        "cut ?",
+        "next ?",
+        "next room",
+        "next record",
+        "next end",
+        "next stop number",
+        "next stop save",
+        "next stop count",
+        "next stop check",
+        "next stop record",
+        "next stop unfinished",
+    ] {
+        assert!(met.contains(case), "{case}");
     }
 }
 
