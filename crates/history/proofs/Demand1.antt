@@ -17,11 +17,12 @@ use Rattle.log.specs.Check.{marksOf, viewOf, withMarks, ruled}
 use Rattle.log.specs.declared.Log.{Log}
 use Rattle.log.specs.declared.Refusal.{Refusal}
 use Rattle.log.specs.declared.Refusal.the-variants.{EBADFD, EPERM, ESPIPE, EINVAL, EFAULT, EOVERFLOW, EPIPE, EAGAIN}
+use Rattle.savedtrail.specs.Save.{saveBy, saving}
 use Rattle.writes.specs.Write.{writeBy, outsideWrite, boxWrite}
 use Rattle.kmsg.specs.Read.{AfterRead, readRefused, readDone, readBy, reading, AfterSeek, seekRuling, seekBy, seeking}
 use Rattle.syslog.specs.Command.{commandBy, commanding}
 use Rattle.syslog.specs.declared.Asked.{Asked}
-use Rattle.history.specs.Calls.{outside, box, make, place, read, seek, command, check, console, State, Stepped, stepped, nobody, withReaders, readerOf, ifThere, afterWrite, replyRead, replySeek, step}
+use Rattle.history.specs.Calls.{outside, box, make, place, read, seek, command, save, check, console, State, Stepped, stepped, nobody, withReaders, readerOf, ifThere, afterWrite, replyRead, replySeek, step}
 use Rattle.history.specs.Demand1.{Answers, Known, tellsOvertaken, lentBack, Demand1}
 
 -- a count is not below 0
@@ -126,10 +127,19 @@ unfolding commandBy viewOf
 command-left log buffer a lent allowed = (tt, λ k e. never _ k e)
 command-left log buffer a lent (refused why) = (known-refusal why, λ k e. (same-marks log, refl))
 
+-- ---- saving
+
+save-left : (log : Log) (buffer : List ℕ) (number : ℕ) (lent : List ℕ) (q : Ruling)
+    → let r = saveBy (viewOf log buffer) number lent q in
+    Fits (r .answer) (r .lent ≡ lent)
+unfolding saveBy
+save-left log buffer number lent allowed = (tt, λ k e. never _ k e)
+save-left log buffer number lent (refused why) = (known-refusal why, λ k e. refl)
+
 -- ---- every call
 
 pub demand-1 : Demand1
-unfolding step outsideWrite boxWrite reading seeking commanding
+unfolding step outsideWrite boxWrite reading seeking commanding saving
 demand-1 s (outside time bytes) n e =
     let f = fits-at e (write-left s _ _ _) in
     record { known = f .0; state = f .1; lent = λ k z. refl }
@@ -151,5 +161,8 @@ demand-1 s (command a lent) n e =
       state = λ k z. ap (λ (l : Log). record { log = l; buffer = s .buffer; readers = s .readers }) (f .1 k z .0);
       lent = λ k z. f .1 k z .1;
     }
+demand-1 s (save number lent) n e =
+    let f = fits-at e (save-left (s .log) (s .buffer) number lent _) in
+    record { known = f .0; state = λ k z. refl; lent = f .1 }
 demand-1 s check n e = absurd e
 demand-1 s (console level setting) n e = absurd e

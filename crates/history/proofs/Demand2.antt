@@ -21,10 +21,11 @@ use Rattle.log.specs.declared.Verdict.the-variants.{Fine}
 use Rattle.store.proofs.StoredLaws.{Storable}
 use Rattle.store.proofs.HoldsLaws.{Holds, goes, grown, dropped-is, length-written, holds-written, written-view}
 use Rattle.store.proofs.MarkLaws.{fine}
+use Rattle.savedtrail.specs.Save.{saveRuling, saving}
 use Rattle.writes.specs.Write.{outsideRecord, boxRecord, outsideRuling, boxRuling, writeBy, outsideWrite, boxWrite}
 use Rattle.kmsg.specs.Read.{readerAt, readRuling, readBy, reading, seekRuling, seekBy, seeking}
 use Rattle.syslog.specs.Command.{OnView, onLog, commandRuling, commandBy, commanding}
-use Rattle.history.specs.Calls.{Call, outside, box, make, place, read, seek, command, check, console, Reply, wrote, made, verdict, nobody, State, Stepped, stepped, withReaders, afterWrite, replyRead, replySeek, afterCommand, ifThere, step, run, stateAfter}
+use Rattle.history.specs.Calls.{Call, outside, box, make, place, read, seek, command, save, check, console, Reply, wrote, made, verdict, nobody, State, Stepped, stepped, withReaders, afterWrite, replyRead, replySeek, afterCommand, ifThere, step, run, stateAfter}
 use Rattle.history.specs.Past.{Past, firstHeld, held, nextNumber, Told, telling, readersAt, accept, pastWrite, pastCommand, pastStep, pastRun, pastAfter, freshPast}
 use Rattle.history.specs.Demand2.{fresh, Timed, AllTimed, Demand2}
 use Rattle.history.specs.Readers.{withPastMarks}
@@ -153,7 +154,7 @@ module _ (s : State) (p : Past) (a : Agrees s p) (ok : Sound p) where
 
 pub agree-step : (s : State) (p : Past) (c : Call) → Agrees s p → Sound p → Timed c
     → (step s c .reply ≡ pastStep p c .reply) × Agrees (step s c .state) (pastStep p c .past)
-unfolding step pastStep outsideWrite boxWrite reading seeking commanding
+unfolding step pastStep outsideWrite boxWrite reading seeking commanding saving
 agree-step s p (outside time bytes) a ok t =
     rw (ruled-is s p a ok (λ v. outsideRuling v bytes), ap (λ (n : ℕ). outsideRecord n time bytes) (next-is s p a ok))
     (write-step s p a ok (outsideRecord (nextNumber p) time bytes) (length bytes) (outsideRuling (held p) bytes) (outside-ready p ok time bytes t))
@@ -180,6 +181,7 @@ agree-step s p (seek i offset whence) a ok t =
 agree-step s p (command x lent) a ok t =
     rw (ruled-is s p a ok (λ v. commandRuling v x lent), a .same)
     (command-step s p a ok (commandBy (held p) x lent (commandRuling (held p) x lent)))
+agree-step s p (save number lent) a ok t = rw (ruled-is s p a ok (λ v. saveRuling v number lent), a .same) (refl, a)
 agree-step s p check a ok t = (ap verdict (is-fine s p a ok), a)
 agree-step s p (console level setting) a ok t = (refl, a)
 

@@ -1,9 +1,10 @@
 -- The log answers as document 01's table lists: each call's ruling is the first of its rows that applies.
-use Prim.Native.Nat.{ℕ, _+_, _<_}
+use Prim.Native.Nat.{ℕ, _+_, _*_, _<_}
 use mathlib.Core.Path.{_≡_, refl, ap, sym, _∙_, subst}
 use mathlib.Core.Logic.{_⊎_, inl, inr}
 use mathlib.Core.Bool.{Bool, true, false, not, _&&_, _||_, true≢false, false≢true}
 use mathlib.Core.List.{List, [], _∷_, map}
+use native.Mathlib.Omega.{arith}
 use borrow.Author.Tests.{ltb-true, lt-ltb, eqb-true, eq-eqb}
 use lib.Dec.{ltb, eqb}
 use lib.IntN.{ℤ, pos, negsuc}
@@ -21,22 +22,25 @@ use Rattle.log.specs.Answer.{refusalNumber, Ruling, allowed, refused, rulingOf,
 use Rattle.record.specs.Forms.{kmsgLine}
 use Rattle.log.specs.View.{View, nextOf, recordAt}
 use Rattle.log.specs.Check.{checked, viewOf, ifFine, ruled}
+use Rattle.log.specs.Excess.{total}
 use Rattle.log.specs.declared.Log.{Log}
 use Rattle.log.specs.declared.Verdict.{Verdict}
 use Rattle.log.specs.declared.Verdict.the-variants.{Fine, Numbers, Heading}
 use Rattle.log.specs.declared.Refusal.{Refusal}
 use Rattle.log.specs.declared.Refusal.the-variants.{EBADFD, EPERM, ESPIPE, EINVAL, EFAULT, EOVERFLOW, EPIPE, EAGAIN}
 use Rattle.store.proofs.MarkLaws.{Marked}
+use Rattle.image.specs.Image.{blocksFor}
+use Rattle.savedtrail.specs.Save.{imageFor, saveRuling, saveBy, saving}
 use Rattle.writes.specs.Write.{outsideRuling, boxRuling, writeBy, outsideWrite, boxWrite}
 use Rattle.kmsg.specs.Read.{lineAt, readRuling, readRefused, readDone, readBy, reading, seekRuling, seekBy, seeking}
 use Rattle.kmsg.specs.declared.Reader.{Reader}
 use Rattle.syslog.specs.Command.{copies, isKnown, isPermitted, wantsLevel, unread, commandRuling, count, commandBy, commanding}
 use Rattle.syslog.proofs.UnreadLaws.{nothing-unread as nothing-unread-law}
 use Rattle.syslog.specs.declared.Asked.{Asked}
-use Rattle.history.specs.Calls.{Call, outside, box, make, place, read, seek, command, check, console, State, Stepped, readerOf, ifThere, step}
+use Rattle.history.specs.Calls.{Call, outside, box, make, place, read, seek, command, save, check, console, State, Stepped, readerOf, ifThere, step}
 use Rattle.history.specs.Demand1.{Answers, table, tableNumber}
-use Rattle.history.specs.Listed.{Applies, check-fails, above-next, without-privilege, offset-not-0, other-whence, unknown-type, len-below-0, level-outside, over-960, over-960-together, zero-byte, bad-facility, bad-level, bad-dictionary, line-longer, above-lent, outside-at-last, box-at-last, below-first, at-next, nothing-unread, readTable, order, Asking, IsCount, Listed, answered}
-use Rattle.history.proofs.ListedTests.{is-says, barred-says, outside-says, box-says, command-says, nothing, unread-says, lent-says, whence-says}
+use Rattle.history.specs.Listed.{Applies, check-fails, above-next, without-privilege, offset-not-0, other-whence, unknown-type, len-below-0, level-outside, over-960, over-960-together, zero-byte, bad-facility, bad-level, bad-dictionary, line-longer, above-lent, short-of-image, outside-at-last, box-at-last, below-first, at-next, nothing-unread, readTable, order, Asking, IsCount, Listed, answered}
+use Rattle.history.proofs.ListedTests.{is-says, barred-says, outside-says, box-says, command-says, nothing, unread-says, lent-says, whence-says, length-image}
 
 -- ---- a test for each row
 
@@ -89,6 +93,7 @@ test bad v readers (command a lent) =
     (not (isKnown (a .command)) || ((copies (a .command) && isNegative (a .len)) || (is (a .command) 8 && not (wantsLevel (a .len)))))
     (copies (a .command) && ltb (length lent) (natural (a .len))) false false
     (is (a .command) 2 && (ltb 0 (natural (a .len)) && nothing v))
+test bad v readers (save number lent) = row bad false false false (ltb (length lent) (length (imageFor v number))) false false false
 test bad v readers check = row bad false false false false false false false
 test bad v readers (console level setting) = row bad false false false false false false false
 
@@ -109,6 +114,15 @@ module _ (failing : Type 0) (bad : Bool) (bs : bad ≡ true → failing) (bc : f
       → ltb (length lent) (length (lineAt v (reader readers i))) ≡ true
   unfolding lineAt
   line-complete i lent h = lt-ltb _ _ h
+
+  short-sound : (number : ℕ) (lent : List ℕ) → ltb (length lent) (length (imageFor v number)) ≡ true → Row (save number lent) EFAULT
+  short-sound number lent e =
+      let h : length lent < length (imageFor v number) = ltb-true _ _ e in
+      short-of-image {lent = lent} (λ blocks some fits. omega (arith, length-image v number))
+
+  short-complete : (number : ℕ) (lent : List ℕ) → length lent < 512 * blocksFor (total (v .records))
+      → ltb (length lent) (length (imageFor v number)) ≡ true
+  short-complete number lent h = lt-ltb (length lent) (length (imageFor v number)) (omega (arith, length-image v number))
 
   sound : (c : Call) (r : Refusal) → test bad v readers c r ≡ true → Row c r
   sound (outside time bytes) r q =
@@ -145,6 +159,8 @@ module _ (failing : Type 0) (bad : Bool) (bs : bad ≡ true → failing) (bc : f
       (λ e. let k = lent-says a (length lent) .says e in above-lent (k .0) (k .1 .is) (k .1 .more))
       never never
       (λ e. let k = unread-says v a .says e in nothing-unread (k .0) (k .1 .0 .is) (k .1 .0 .more) (k .1 .1)) r q
+  sound (save number lent) r q =
+      by-row (Row (save number lent)) (λ e. check-fails (bs e)) never never never (short-sound number lent) never never never r q
   sound check r q = by-row (Row check) (λ e. check-fails (bs e)) never never never never never never never r q
   sound (console level setting) r q = by-row (Row (console level setting)) (λ e. check-fails (bs e)) never never never never never never never r q
 
@@ -157,6 +173,7 @@ module _ (failing : Type 0) (bad : Bool) (bs : bad ≡ true → failing) (bc : f
   bad-first (read i lent) e = above-read i .told (inl (bs e))
   bad-first (seek i offset whence) e = e
   bad-first (command a lent) e = e
+  bad-first (save number lent) e = e
   bad-first check e = e
   bad-first (console level setting) e = e
 
@@ -178,6 +195,8 @@ module _ (failing : Type 0) (bad : Bool) (bs : bad ≡ true → failing) (bc : f
   complete c r (bad-dictionary {facility} {level} {time} {text} {dictionary} h) = box-says facility level text dictionary .told (inr (inr (inr h)))
   complete c r (line-longer {i} {lent} h) = line-complete i lent h
   complete c r (above-lent {a} {lent} {n} k z h) = lent-says a (length lent) .told (k, record { size = n; is = z; more = h })
+  complete c r (short-of-image {number} {lent} h) =
+      short-complete number lent (h (blocksFor (total (v .records))) (omega arith) (omega arith))
   complete c r (outside-at-last e) = eq-eqb _ _ e
   complete c r (box-at-last e) = eq-eqb _ _ e
   complete c r (below-first h) = lt-ltb _ _ h
@@ -247,6 +266,12 @@ first-command false false false false false true u done = refl
 first-command false false false false false false true done = refl
 first-command false false false false false false false done = refl
 
+first-save : (bad f : Bool) (done : ℤ)
+    → numberBy done (checkedFirst bad (rulingOf ((f, EFAULT) ∷ []))) ≡ firstRow table (row bad false false false f false false false) done
+first-save true f done = refl
+first-save false true done = refl
+first-save false false done = refl
+
 -- ---- what each call answers
 
 -- a count's code is 0, so that it is no row's
@@ -262,6 +287,7 @@ rows-apart (place i n) k = numbered code table tableNumber (pos k) refl
 rows-apart (read i lent) k = numbered code readTable tableNumber (pos k) refl
 rows-apart (seek i offset whence) k = numbered code table tableNumber (pos k) refl
 rows-apart (command a lent) k = numbered code table tableNumber (pos k) refl
+rows-apart (save number lent) k = numbered code table tableNumber (pos k) refl
 rows-apart check k = numbered code table tableNumber (pos k) refl
 rows-apart (console level setting) k = numbered code table tableNumber (pos k) refl
 
@@ -325,6 +351,12 @@ unfolding commandBy
 command-number v a lent allowed = refl
 command-number v a lent (refused why) = refl
 
+pub save-number : (v : View) (number : ℕ) (lent : List ℕ) (q : Ruling)
+    → saveBy v number lent q .answer ≡ numberBy (pos (length (imageFor v number))) q
+unfolding saveBy
+save-number v number lent allowed = refl
+save-number v number lent (refused why) = refl
+
 command-first : (v : View) (readers : List ℕ) (a : Asked) (lent : List ℕ) (bad : Bool) (done : ℤ) → (bad ≡ false → eqb (length (unread v)) 0 ≡ nothing v)
     → numberBy done (checkedFirst bad (commandRuling v a lent)) ≡ firstRow table (test bad v readers (command a lent)) done
 unfolding commandRuling
@@ -365,7 +397,7 @@ module _ (s : State) (failing : Type 0) (bs : isBad (checked (s .log) (s .buffer
   there false x y n e f = absurd (false≢true e)
 
   pub listed : (c : Call) → Asking (s .readers) c → Listed failing view (s .readers) c (answered s c)
-  unfolding step outsideWrite boxWrite reading seeking commanding outsideRuling boxRuling readRuling seekRuling
+  unfolding step outsideWrite boxWrite reading seeking commanding saving outsideRuling boxRuling readRuling seekRuling saveRuling
   listed (outside time bytes) h =
       record {
         answer = outsideWrite (s .log) (s .buffer) time bytes .answer;
@@ -421,6 +453,17 @@ module _ (s : State) (failing : Type 0) (bs : isBad (checked (s .log) (s .buffer
             (command-number view a lent _
             ∙ ruled-number (λ v. commandRuling v a lent) (pos k)
             ∙ command-first view (s .readers) a lent wrong (pos k) (λ e. nothing-unread-law view (marked e)));
+      }
+  listed (save number lent) h =
+      let k = length (imageFor view number) in
+      record {
+        answer = saving (s .log) (s .buffer) number lent .answer;
+        answers = refl;
+        exactly =
+            exact (save number lent) k _
+            (save-number view number lent _
+            ∙ ruled-number (λ v. saveRuling v number lent) (pos k)
+            ∙ first-save wrong (ltb (length lent) k) (pos k));
       }
   listed check h = absurd h
   listed (console level setting) h = absurd h

@@ -1,5 +1,5 @@
 -- The tests that the calls make, and the phrases of "When the log says no" that they stand for.
-use Prim.Native.Nat.{ℕ, _+_, _<_, _≤_}
+use Prim.Native.Nat.{ℕ, _+_, _*_, _<_, _≤_}
 use mathlib.Core.Path.{_≡_, refl, ap, sym, _∙_}
 use mathlib.Core.Logic.{_⊎_, inl, inr}
 use mathlib.Core.Bool.{Bool, true, false, cond, not, _&&_, _||_, true≢false, false≢true}
@@ -18,6 +18,15 @@ use Rattle.record.specs.Dictionary.{isDictionary, Dictionary}
 use Rattle.record.proofs.DictionaryLaws.{dictionary-says}
 use Rattle.log.specs.Answer.{is, oneOf, isNegative, natural}
 use Rattle.log.specs.View.{View, nextOf}
+use Rattle.log.specs.Excess.{total}
+use Rattle.store.proofs.StoredLaws.{length-bytes}
+use Rattle.image.specs.Block.{blockSize}
+use Rattle.image.specs.Coding.{joined}
+use Rattle.image.specs.Image.{blocksFor, image}
+use Rattle.image.specs.Plain.{plain, edition}
+use Rattle.image.proofs.StreamLaws.{length-blocks}
+use Rattle.image.proofs.PlainLaws.{joined-is}
+use Rattle.savedtrail.specs.Save.{imageFor}
 use Rattle.syslog.specs.Command.{copies, isKnown, isPermitted, wantsLevel}
 use Rattle.syslog.specs.declared.Asked.{Asked}
 use Rattle.syslog.proofs.RefusalLaws.{known-is}
@@ -196,3 +205,13 @@ lent-says a room = and-says (copying-says (a .command)) (above-says room (a .len
 
 pub whence-says : (z : ℤ) → Reflects (not (oneOf z (0 ∷ 2 ∷ 3 ∷ []))) (OneOf z (0 ∷ 2 ∷ 3 ∷ []) → ⊥)
 whence-says z = not-says (one-says z (0 ∷ 2 ∷ 3 ∷ []))
+
+-- ---- saving
+
+-- 512 bytes for each begun 496 bytes of the records, and one block where there are none
+pub length-image : (v : View) (number : ℕ) → length (imageFor v number) ≡ blockSize * blocksFor (total (v .records))
+unfolding imageFor image
+length-image v number =
+    let s = joined plain (v .records) in
+    length-blocks (blocksFor (length s)) edition 0 number s
+    ∙ ap (λ (n : ℕ). blockSize * blocksFor n) (ap length (joined-is (v .records)) ∙ length-bytes (v .records))

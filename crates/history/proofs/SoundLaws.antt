@@ -23,7 +23,7 @@ use Rattle.writes.proofs.StorableLaws.{outside-storable, outside-next, box-stor
 use Rattle.syslog.specs.Command.{commandRuling, marksAfter, commandBy}
 use Rattle.syslog.specs.declared.Asked.{Asked}
 use Rattle.syslog.proofs.CommandLaws.{withViewMarks, command-marked, command-on}
-use Rattle.history.specs.Calls.{Call, outside, box, make, place, read, seek, command, check, console, Reply, nobody, ifThere}
+use Rattle.history.specs.Calls.{Call, outside, box, make, place, read, seek, command, save, check, console, Reply, nobody, ifThere}
 use Rattle.history.specs.Past.{Past, firstHeld, held, nextNumber, Told, telling, readersAt, accept, pastWrite, pastStep, pastAfter, freshPast}
 use Rattle.history.specs.Demand2.{Timed, AllTimed}
 use Rattle.history.specs.Readers.{withPastMarks, NumberedInOrder, ReadsOn}
@@ -131,6 +131,7 @@ sound-step p (seek i offset whence) s t = sound-there p s (ltb i (length (p .rea
 sound-step p (command a lent) s t =
     let c = commandBy (held p) a lent (commandRuling (held p) a lent) in
     sound-marks p s (c .marks) (marked-by p s a lent _ refl)
+sound-step p (save number lent) s t = s
 sound-step p check s t = s
 sound-step p (console level setting) s t = s
 

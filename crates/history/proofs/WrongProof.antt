@@ -18,15 +18,16 @@ use Rattle.log.specs.declared.Verdict.the-variants.{Fine}
 use Rattle.log.specs.declared.Refusal.{Refusal}
 use Rattle.log.specs.declared.Refusal.the-variants.{EBADFD, EPERM, ESPIPE, EINVAL, EFAULT, EOVERFLOW, EPIPE, EAGAIN}
 use Rattle.store.proofs.MarkLaws.{fine}
+use Rattle.savedtrail.specs.Save.{imageFor, saveRuling, saving}
 use Rattle.writes.specs.Write.{outsideRuling, boxRuling, outsideWrite, boxWrite}
 use Rattle.syslog.specs.Command.{commandRuling, count, commanding}
 use Rattle.syslog.specs.declared.Asked.{Asked}
-use Rattle.history.specs.Calls.{Call, outside, box, make, place, read, seek, command, check, console, State, step}
+use Rattle.history.specs.Calls.{Call, outside, box, make, place, read, seek, command, save, check, console, State, step}
 use Rattle.history.specs.Demand1.{table}
-use Rattle.history.specs.Listed.{Open, Applies, check-fails, without-privilege, over-960, over-960-together, zero-byte, bad-facility, bad-level, bad-dictionary, outside-at-last, Listed, AsListed, answered}
-use Rattle.history.specs.Wrong.{ruledBy, refuseAll, overflowFirst, oneByteMore, zeroTaken, zeroFromBox, invalidFirst, WrongRefused}
+use Rattle.history.specs.Listed.{Open, Applies, check-fails, without-privilege, over-960, over-960-together, zero-byte, bad-facility, bad-level, bad-dictionary, short-of-image, outside-at-last, Listed, AsListed, answered}
+use Rattle.history.specs.Wrong.{ruledBy, refuseAll, overflowFirst, oneByteMore, zeroTaken, zeroFromBox, invalidFirst, savesBy, anyBuffer, WrongRefused}
 use Rattle.history.proofs.Demand1.{never}
-use Rattle.history.proofs.ListedProof.{numberBy, rows-apart, by-check, write-number, command-number}
+use Rattle.history.proofs.ListedProof.{numberBy, rows-apart, by-check, write-number, command-number, save-number}
 
 -- a log that holds nothing, with n its next number
 empty : ℕ → State
@@ -206,6 +207,36 @@ invalid-refused f =
     x .exactly .only EINVAL (inr (inr (inr (inl refl)))) (sym (command-answers outsideRuling boxRuling invalidFirst f 0 poor (refused EINVAL) refl))
     .1 EPERM (inr (inl (refl, inr (inl refl)))) (without-privilege refl not-open)
 
+-- 511 bytes for the one block of a log that holds nothing
+short-lent : List ℕ
+short-lent = replicate 511 0
+
+abbrev SaveRow : Refusal → Type 0
+SaveRow e = Applies (checked (empty 0 .log) (empty 0 .buffer) ≡ Fine → ⊥) (view 0) (empty 0 .readers) (save 0 short-lent) e
+
+none-before-short : (e : Refusal) → Earlier e EFAULT table → SaveRow e → ⊥
+none-before-short EBADFD k h = elim h [ check-fails g ↦ g (empty-fine 0) ]
+none-before-short EPERM k h = elim h [ ]
+none-before-short ESPIPE k h = elim h [ ]
+none-before-short EINVAL k h = elim h [ ]
+none-before-short EFAULT k h = rows-apart (save 0 short-lent) 0 .once EFAULT k
+none-before-short EOVERFLOW k h = elim h [ ]
+none-before-short EPIPE k h = elim h [ ]
+none-before-short EAGAIN k h = elim h [ ]
+
+short-refused : AsListed (savesBy anyBuffer) → ⊥
+unfolding short-lent
+short-refused f =
+    let k = length (imageFor (view 0) 0) in
+    let x = f (empty 0) (bytes-of 0) (save 0 short-lent) tt in
+    let a : pos k ≡ x .answer =
+    ap (numberBy (pos k)) (sym (by-ruling 0 (λ v. anyBuffer v 0 short-lent))) ∙ sym (save-number (view 0) 0 short-lent _) ∙ x .answers
+    in
+    let y : x .answer ≡ refusalNumber EFAULT =
+    x .exactly .always EFAULT (inr (inr (inr (inr (inl refl))))) (short-of-image (λ blocks some fits. omega arith)) none-before-short
+    in
+    never k 13 (a ∙ y)
+
 ours : (s : State) (c : Call) → ruledBy outsideRuling boxRuling commandRuling s c ≡ answered s c
 unfolding step outsideWrite boxWrite commanding
 ours s (outside time bytes) = refl
@@ -215,8 +246,22 @@ ours s (place i n) = refl
 ours s (read i lent) = refl
 ours s (seek i offset whence) = refl
 ours s (command a lent) = refl
+ours s (save number lent) = refl
 ours s check = refl
 ours s (console level setting) = refl
+
+ours-saving : (s : State) (c : Call) → savesBy saveRuling s c ≡ answered s c
+unfolding step saving
+ours-saving s (outside time bytes) = refl
+ours-saving s (box facility level time text dictionary) = refl
+ours-saving s make = refl
+ours-saving s (place i n) = refl
+ours-saving s (read i lent) = refl
+ours-saving s (seek i offset whence) = refl
+ours-saving s (command a lent) = refl
+ours-saving s (save number lent) = refl
+ours-saving s check = refl
+ours-saving s (console level setting) = refl
 
 pub wrong-refused : WrongRefused
 wrong-refused =
@@ -228,4 +273,6 @@ wrong-refused =
       zero = zero-refused;
       from-box = from-box-refused;
       invalid = invalid-refused;
+      ours-saving = ours-saving;
+      short = short-refused;
     }

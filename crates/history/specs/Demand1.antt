@@ -11,7 +11,7 @@ use lib.ListN
 use Rattle.slices.specs.Listed.{In}
 use Rattle.log.specs.declared.Refusal.{Refusal}
 use Rattle.log.specs.declared.Refusal.the-variants.{EBADFD, EPERM, ESPIPE, EINVAL, EFAULT, EOVERFLOW, EPIPE, EAGAIN}
-use Rattle.history.specs.Calls.{Call, outside, box, make, place, read, seek, command, check, console, Reply, wrote, made, set, gave, sought, told, verdict, shown, nobody, State, withReaders, step}
+use Rattle.history.specs.Calls.{Call, outside, box, make, place, read, seek, command, save, check, console, Reply, wrote, made, set, gave, sought, told, verdict, shown, nobody, State, withReaders, step}
 
 -- the reply answers this number; a call that only makes a reader, sets one, checks the log or asks the console question answers none
 abbrev pub Answers : Reply → ℤ → Type 0
@@ -59,6 +59,7 @@ lentTo (place i n) = []
 lentTo (read i lent) = lent
 lentTo (seek i offset whence) = []
 lentTo (command a lent) = lent
+lentTo (save number lent) = lent
 lentTo check = []
 lentTo (console level setting) = []
 
@@ -82,6 +83,7 @@ leftBy s (place i m) n = s
 leftBy s (read i lent) n = cond (tellsOvertaken n) (withReaders s (lib.ListN.set (s .readers) i (s .log .first .0))) s
 leftBy s (seek i offset whence) n = s
 leftBy s (command a lent) n = s
+leftBy s (save number lent) n = s
 leftBy s check n = s
 leftBy s (console level setting) n = s
 

@@ -1,7 +1,7 @@
 -- Document 01's table "When the log says no", as it is written and as document 02 amends it: a line for each phrase, in the words of what the log holds, the reader's number
 -- and what is handed in. None of the tests that the calls' definitions are made of is in it, so that a log which refuses more, less or in
 -- another order does not meet it. The figures are the paper's own, as in the tables of cases: a limit that is moved in its definition is refused here.
-use Prim.Native.Nat.{ℕ, _+_, _-_, _^_, _<_, _≤_}
+use Prim.Native.Nat.{ℕ, _+_, _-_, _*_, _^_, _<_, _≤_}
 use mathlib.Core.Path.{_≡_}
 use mathlib.Core.Logic.{_⊎_}
 use mathlib.Core.Bool.{true, false}
@@ -15,11 +15,12 @@ use Rattle.record.specs.Dictionary.{Dictionary}
 use Rattle.record.specs.Forms.{kmsgLine}
 use Rattle.log.specs.View.{View, nextOf, recordAt}
 use Rattle.log.specs.Check.{checked, viewOf}
+use Rattle.log.specs.Excess.{total}
 use Rattle.log.specs.declared.Verdict.the-variants.{Fine}
 use Rattle.log.specs.declared.Refusal.{Refusal}
 use Rattle.log.specs.declared.Refusal.the-variants.{EBADFD, EPERM, ESPIPE, EINVAL, EFAULT, EOVERFLOW, EPIPE, EAGAIN}
 use Rattle.syslog.specs.declared.Asked.{Asked}
-use Rattle.history.specs.Calls.{Call, outside, box, make, place, read, seek, command, check, console, Reply, State, step, stateAfter}
+use Rattle.history.specs.Calls.{Call, outside, box, make, place, read, seek, command, save, check, console, Reply, State, step, stateAfter}
 use Rattle.history.specs.Past.{held, pastAfter, freshPast}
 use Rattle.history.specs.Demand1.{Answers, table, tableNumber}
 use Rattle.history.specs.Demand2.{fresh, AllTimed}
@@ -74,6 +75,10 @@ pub data Applies (fails : Type 0) (v : View) (readers : List ℕ) : Call → Ref
   -- -14 EFAULT: len above the lent buffer (2, 3, 4)
   above-lent : {a : Asked} {lent : List ℕ} {n : ℕ} → Copying (a .command) → a .len ≡ pos n → length lent < n
       → Applies fails v readers (command a lent) EFAULT
+  -- saving into too short a buffer (document 02, ticket 3): shorter than any blocks of 512 bytes, one or more, that take the records held, 496 bytes in each
+  short-of-image : {number : ℕ} {lent : List ℕ}
+      → ((blocks : ℕ) → 1 ≤ blocks → total (v .records) ≤ 496 * blocks → length lent < 512 * blocks)
+      → Applies fails v readers (save number lent) EFAULT
   -- -75 EOVERFLOW: write when next is 2^64 - 1
   outside-at-last : {time : ℕ} {bytes : List ℕ} → nextOf v ≡ 2 ^ 64 - 1 → Applies fails v readers (outside time bytes) EOVERFLOW
   box-at-last : {facility level time : ℕ} {text dictionary : List ℕ} → nextOf v ≡ 2 ^ 64 - 1
@@ -100,6 +105,7 @@ order (place i n) = table
 order (read i lent) = readTable
 order (seek i offset whence) = table
 order (command a lent) = table
+order (save number lent) = table
 order check = table
 order (console level setting) = table
 
@@ -114,6 +120,7 @@ Asking readers (place i n) = ⊥
 Asking readers (read i lent) = i < length readers
 Asking readers (seek i offset whence) = i < length readers
 Asking readers (command a lent) = Unit {0}
+Asking readers (save number lent) = Unit {0}
 Asking readers check = ⊥
 Asking readers (console level setting) = ⊥
 

@@ -8,14 +8,15 @@ use lib.Dec.{ltb, eqb}
 use lib.ListN.{length}
 use Rattle.slices.specs.Cut.{has}
 use Rattle.record.specs.Limits.{payloadMost}
-use Rattle.log.specs.Answer.{Ruling, refused, rulingOf, is, isNegative, natural}
+use Rattle.log.specs.Answer.{Ruling, allowed, refused, rulingOf, is, isNegative, natural}
 use Rattle.log.specs.View.{View}
 use Rattle.log.specs.Check.{viewOf, ruled}
 use Rattle.log.specs.declared.Refusal.the-variants.{EPERM, EINVAL, EFAULT, EAGAIN}
+use Rattle.savedtrail.specs.Save.{saveRuling, saveBy}
 use Rattle.writes.specs.Write.{outsideRecord, boxRecord, numbersOver, boxTests, outsideRuling, boxRuling, writeBy}
 use Rattle.syslog.specs.Command.{copies, isKnown, isPermitted, wantsLevel, unread, commandRuling, commandBy, onLog}
 use Rattle.syslog.specs.declared.Asked.{Asked}
-use Rattle.history.specs.Calls.{Call, outside, box, make, place, read, seek, command, check, console, Reply, State, afterWrite, afterCommand}
+use Rattle.history.specs.Calls.{Call, outside, box, make, place, read, seek, command, save, check, console, Reply, State, afterWrite, afterCommand, afterSave}
 use Rattle.history.specs.Listed.{AsListed, answered}
 
 -- our log, but for the rulings on a write from outside, on one from the box and on a command
@@ -37,6 +38,7 @@ ruledBy onWrite onBox onCommand s (command a lent) =
     afterCommand s
     (onLog (s .log) (commandBy (viewOf (s .log) (s .buffer)) a lent (ruled (s .log) (s .buffer) (λ v. onCommand v a lent))))
     .reply
+ruledBy onWrite onBox onCommand s (save number lent) = answered s (save number lent)
 ruledBy onWrite onBox onCommand s check = answered s check
 ruledBy onWrite onBox onCommand s (console level setting) = answered s (console level setting)
 
@@ -72,6 +74,24 @@ invalidFirst v a lent =
     ∷ (is (a .command) 2 && ltb 0 (natural (a .len)) && eqb (length (unread v)) 0, EAGAIN)
     ∷ [])
 
+-- our log, but for the ruling on saving
+abbrev pub savesBy : (View → ℕ → List ℕ → Ruling) → State → Call → Reply
+savesBy onSave s (outside time bytes) = answered s (outside time bytes)
+savesBy onSave s (box facility level time text dictionary) = answered s (box facility level time text dictionary)
+savesBy onSave s make = answered s make
+savesBy onSave s (place i n) = answered s (place i n)
+savesBy onSave s (read i lent) = answered s (read i lent)
+savesBy onSave s (seek i offset whence) = answered s (seek i offset whence)
+savesBy onSave s (command a lent) = answered s (command a lent)
+savesBy onSave s (save number lent) =
+    afterSave s (saveBy (viewOf (s .log) (s .buffer)) number lent (ruled (s .log) (s .buffer) (λ v. onSave v number lent))) .reply
+savesBy onSave s check = answered s check
+savesBy onSave s (console level setting) = answered s (console level setting)
+
+-- -14 left out: saved into any buffer
+abbrev pub anyBuffer : View → ℕ → List ℕ → Ruling
+anyBuffer v number lent = allowed
+
 pub record WrongRefused : Type 0 where
   -- with our own rulings it is our log
   pub ours : (s : State) (c : Call) → ruledBy outsideRuling boxRuling commandRuling s c ≡ answered s c
@@ -81,3 +101,5 @@ pub record WrongRefused : Type 0 where
   pub zero : AsListed (ruledBy zeroTaken boxRuling commandRuling) → ⊥
   pub from-box : AsListed (ruledBy outsideRuling zeroFromBox commandRuling) → ⊥
   pub invalid : AsListed (ruledBy outsideRuling boxRuling invalidFirst) → ⊥
+  pub ours-saving : (s : State) (c : Call) → savesBy saveRuling s c ≡ answered s c
+  pub short : AsListed (savesBy anyBuffer) → ⊥

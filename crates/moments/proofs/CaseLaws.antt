@@ -15,7 +15,7 @@ use Rattle.log.specs.View.{Marks, View}
 use Rattle.log.specs.Check.{freshLog, marksOf, viewOf}
 use Rattle.log.specs.Excess.{total}
 use Rattle.store.proofs.HoldsLaws.{used-is}
-use Rattle.history.specs.Calls.{Call, outside, box, make, place, read, seek, command, check, console, State, step, stateAfter}
+use Rattle.history.specs.Calls.{Call, outside, box, make, place, read, seek, command, save, check, console, State, step, stateAfter}
 use Rattle.history.specs.Past.{Past, firstHeld, held, pastStep, pastAfter, freshPast}
 use Rattle.history.specs.Demand2.{fresh, Timed, AllTimed}
 use Rattle.history.proofs.SoundLaws.{Sound, sound-step, sound-after, sound-fresh}
@@ -33,6 +33,7 @@ isTimed (place i n) = true
 isTimed (read i lent) = true
 isTimed (seek i offset whence) = true
 isTimed (command a lent) = true
+isTimed (save number lent) = true
 isTimed check = true
 isTimed (console level setting) = true
 
@@ -45,6 +46,7 @@ timed (place i n) e = tt
 timed (read i lent) e = tt
 timed (seek i offset whence) e = tt
 timed (command a lent) e = tt
+timed (save number lent) e = tt
 timed check e = tt
 timed (console level setting) e = tt
 

@@ -24,7 +24,7 @@ use Rattle.store.proofs.HoldsLaws.{grown, used-is, holds-written}
 use Rattle.writes.specs.Write.{outsideRecord, boxRecord, outsideRuling, boxRuling, writeBy, outsideWrite, boxWrite}
 use Rattle.kmsg.specs.Read.{reading, seeking}
 use Rattle.syslog.specs.Command.{commanding}
-use Rattle.history.specs.Calls.{Call, outside, box, make, place, read, seek, command, check, console, State, Stepped, afterWrite, ifThere, step, stateAfter}
+use Rattle.history.specs.Calls.{Call, outside, box, make, place, read, seek, command, save, check, console, State, Stepped, afterWrite, ifThere, step, stateAfter}
 use Rattle.history.specs.Past.{Past, held, nextNumber, pastStep}
 use Rattle.history.specs.Demand2.{Timed, AllTimed}
 use Rattle.history.proofs.SoundLaws.{Sound, Ready, ready-cost, outside-ready, box-ready, sound-step}
@@ -94,6 +94,7 @@ lyingStep p y (place i n) = y
 lyingStep p y (read i lent) = y
 lyingStep p y (seek i offset whence) = y
 lyingStep p y (command a lent) = y
+lyingStep p y (save number lent) = y
 lyingStep p y check = y
 lyingStep p y (console level setting) = y
 
@@ -171,6 +172,7 @@ lies-step s p (place i n) a ok t = refl
 lies-step s p (read i lent) a ok t = lies-either (ltb i (length (s .readers))) _ _ refl
 lies-step s p (seek i offset whence) a ok t = lies-either (ltb i (length (s .readers))) _ _ refl
 lies-step s p (command x lent) a ok t = refl
+lies-step s p (save number lent) a ok t = refl
 lies-step s p check a ok t = refl
 lies-step s p (console level setting) a ok t = refl
 

@@ -14,8 +14,15 @@ use Rattle.slices.specs.Put.{Left, placed, put}
 use Rattle.slices.specs.Put.{left as putLeft}
 use Rattle.slices.specs.declared.Placed.the-variants.{End, NoRoom}
 use Rattle.slices.proofs.Bools.{or-true}
+use Rattle.record.specs.Limits.{payloadMost}
+use Rattle.record.specs.Record.{Record}
 use Rattle.console.specs.Console.{isLevel, levelSet, setTo, setNumber}
 use Rattle.console.specs.declared.Console.{Console}
+use Rattle.image.specs.Read.{Turn, taken, over}
+use Rattle.image.specs.Plain.{plain, edition}
+use Rattle.savedtrail.specs.Reader.{AfterNext, turnAt, nextBy, nextWith, asRecord, nextOf}
+use Rattle.savedtrail.specs.declared.Reader.{Reader}
+use Rattle.savedtrail.specs.declared.Told.the-variants.{Room}
 use Rattle.message.specs.Message.{ROOM, BULK, text, dictionary, refusal, reading}
 use Rattle.message.specs.Line.{Line, lacksRoom, lineRefusal, readLine, block}
 use Rattle.message.specs.Line.{line as lineLeft}
@@ -29,7 +36,7 @@ use Rattle.history.specs.Calls.{Reply, wrote, made, set, gave, sought, told, ve
 use Rattle.history.specs.Demand1.{Answers}
 use Rattle.history.specs.Demand1.{Known as InTable}
 use Rattle.history.proofs.Demand1.{demand-1}
-use Rattle.product.specs.Calls.{Box, Call, onLog, turnOff, turnOn, setLevel, line, delivery, receiver, number, byReader, byBoard, printed, replied, placedAt, withLog, withConsole, called, handed}
+use Rattle.product.specs.Calls.{Box, Call, onLog, turnOff, turnOn, setLevel, line, delivery, receiver, trailNext, number, byReader, byBoard, printed, noRoom, other, replied, placedAt, trailTold, withLog, withConsole, withTrail, called, handed}
 use Rattle.product.specs.Demand1.{Known, Refuses, left, Demand1}
 
 -- ---- the log
@@ -171,6 +178,41 @@ module _ (input buffer out : List ℕ) where
       let e : leb (length bytes) (length out) ≡ true = le-leb (length bytes) (length out) (omega (arith, longest-report buffer input)) in
       rw (put-is, e)
 
+-- ---- the trail reader
+
+module _ (q : Reader) (file result : List ℕ) where
+  -- a result buffer that is too short is told before the turn is looked at
+  abbrev next-by : Bool → Turn Record → AfterNext
+  next-by t x = cond t (record { told = Room; reader = q; result = result }) (nextBy asRecord edition q file result x)
+
+  trail-known : Known (trailTold (nextOf q file result .told))
+  unfolding nextWith nextBy
+  trail-known = go (ltb (length result) payloadMost) (turnAt plain edition q file)
+    where
+      go : (t : Bool) (x : Turn Record) → Known (trailTold (next-by t x .told))
+      go true x = tt
+      go false (over e) = tt
+      go false (taken r n) = tt
+
+  trail-left : Refuses (trailTold (nextOf q file result .told))
+      → (nextOf q file result .reader ≡ q) × (nextOf q file result .result ≡ result)
+  unfolding nextWith nextBy
+  trail-left = go (ltb (length result) payloadMost) (turnAt plain edition q file)
+    where
+      go : (t : Bool) (x : Turn Record) → Refuses (trailTold (next-by t x .told)) → (next-by t x .reader ≡ q) × (next-by t x .result ≡ result)
+      go true x f = (refl, refl)
+      go false (over e) f = absurd f
+      go false (taken r n) f = absurd f
+
+  trail-short : trailTold (nextOf q file result .told) ≡ cond (ltb (length result) 960) noRoom other
+  unfolding nextWith nextBy
+  trail-short = go (ltb (length result) payloadMost) (turnAt plain edition q file)
+    where
+      go : (t : Bool) (x : Turn Record) → trailTold (next-by t x .told) ≡ cond t noRoom other
+      go true x = refl
+      go false (over e) = refl
+      go false (taken r n) = refl
+
 -- ---- every call
 
 known : (b : Box) (c : Call) → Known (called b c .answer)
@@ -182,6 +224,7 @@ known b (setLevel level) = level-known (isLevel level)
 known b (line m result numbers) = line-known m result numbers
 known b (delivery m) = board-known (b .board) m
 known b (receiver input buffer out) = out-known input buffer out
+known b (trailNext file result) = trail-known (b .trail) file result
 
 box : (b : Box) (c : Call) → Refuses (called b c .answer) → called b c .box ≡ left b c (called b c .answer)
 unfolding called
@@ -192,8 +235,9 @@ box b turnOff f = absurd f
 box b turnOn f = absurd f
 box b (setLevel level) f = ap (withConsole b) (set-left (b .console) level f)
 box b (line m result numbers) f = refl
-box b (delivery m) f = ap (λ (x : State). record { log = b .log; console = b .console; board = x }) (board-left (b .board) m f)
+box b (delivery m) f = ap (λ (x : State). record { log = b .log; console = b .console; board = x; trail = b .trail }) (board-left (b .board) m f)
 box b (receiver input buffer out) f = refl
+box b (trailNext file result) f = ap (withTrail b) (trail-left (b .trail) file result f .0)
 
 lent : (b : Box) (c : Call) → Refuses (called b c .answer) → called b c .lent ≡ handed c
 unfolding called
@@ -205,7 +249,8 @@ lent b (setLevel level) f = refl
 lent b (line m result numbers) f = let l = line-left m result numbers f in ap₂ (λ (x y : List ℕ). x ∷ y ∷ []) (l .0) (l .1)
 lent b (delivery m) f = refl
 lent b (receiver input buffer out) f = let l = out-left input buffer out f in ap₂ (λ (x y : List ℕ). x ∷ y ∷ []) (l .0) (l .1)
+lent b (trailNext file result) f = ap (λ (x : List ℕ). x ∷ []) (trail-left (b .trail) file result f .1)
 
 pub product-demand-1 : Demand1
 unfolding called
-product-demand-1 = record { known = known; box = box; lent = lent; room = λ b input buffer out h. out-room input buffer out h }
+product-demand-1 = record { known = known; box = box; lent = lent; room = λ b input buffer out h. out-room input buffer out h; short = λ b file result. trail-short (b .trail) file result }

@@ -1,9 +1,11 @@
--- Demand 1, as one statement: over every call of the product, any log, board and console setting, and any buffers, bytes and numbers, every answer
+-- Demand 1, as one statement: over every call of the product, any log, board, console setting and trail reader, and any buffers, bytes and numbers, every answer
 -- is a count or a number of document 01's tables, and a refusal leaves everything as it was; one thing may move: a reader told -32 is set to
 -- the oldest record left.
 use Prim.Native.Nat.{ℕ, zero, suc, _≤_}
 use mathlib.Core.Path.{_≡_}
+use mathlib.Core.Bool.{cond}
 use mathlib.Core.List.{List}
+use lib.Dec.{ltb}
 use lib.IntN.{pos, negsuc}
 use lib.ListN.{length}
 use Rattle.message.specs.Message.{BULK}
@@ -12,7 +14,7 @@ use Rattle.feed.specs.Feed.{output}
 use Rattle.feed.specs.Longest.{reportMost}
 use Rattle.history.specs.Demand1.{leftBy}
 use Rattle.history.specs.Demand1.{Known as InTable}
-use Rattle.product.specs.Calls.{Box, Call, onLog, turnOff, turnOn, setLevel, line, delivery, receiver, Answer, number, byReader, byBoard, printed, noRoom, other, withLog, called, handed}
+use Rattle.product.specs.Calls.{Box, Call, onLog, turnOff, turnOn, setLevel, line, delivery, receiver, trailNext, Answer, number, byReader, byBoard, printed, noRoom, other, withLog, called, handed}
 
 -- a count, or a number of the tables: -77 .. -11 of the log, 1 to 8 of the line reader, 1 to 10 of the board
 abbrev pub Known : Answer → Type 0
@@ -49,6 +51,7 @@ left b (setLevel level) a = b
 left b (line m result numbers) a = b
 left b (delivery m) a = b
 left b (receiver input buffer out) a = b
+left b (trailNext file result) a = b
 
 pub record Demand1 : Type 0 where
   pub known : (b : Box) (c : Call) → Known (called b c .answer)
@@ -57,3 +60,5 @@ pub record Demand1 : Type 0 where
   -- the receiver has no room only in a buffer that is shorter than the longest report, which its program never lends
   pub room : (b : Box) (input buffer out : List ℕ) → reportMost ≤ length out
       → called b (receiver input buffer out) .answer ≡ printed (length (output buffer input))
+  -- the trail reader has no room exactly in a result buffer under 960 bytes
+  pub short : (b : Box) (file result : List ℕ) → called b (trailNext file result) .answer ≡ cond (ltb (length result) 960) noRoom other
