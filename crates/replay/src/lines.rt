@@ -9,6 +9,8 @@ use crate::renderer_calls;
 use crate::state;
 use crate::state::Called;
 use crate::state::State;
+use crate::trail_calls;
+use crate::trail_calls::Disk;
 use crate::write_calls;
 use script::answers;
 use script::answers::Told;
@@ -31,6 +33,7 @@ fn on_log(
     words: Words,
     bytes: &Bytes,
     buffer: &mut [u8],
+    image: &mut Disk,
     space: &mut Space,
 ) -> Called {
     if !state.has_log {
@@ -43,6 +46,7 @@ fn on_log(
         b'n' => log_calls::set_number(state, words),
         b'w' => write_calls::call(state, words, bytes, ring, space),
         b'r' => reader_calls::call(state, words, ring, space),
+        b's' => trail_calls::save(state, words, ring, image, space),
         _ => command_calls::call(state, words, ring, space),
     }
 }
@@ -55,6 +59,8 @@ fn call(
     bytes: &Bytes,
     buffer: &mut Buffer,
     slots: &mut Slots,
+    image: &mut Disk,
+    file: &mut Disk,
     space: &mut Space,
 ) -> Called {
     let family = words.family;
@@ -63,7 +69,9 @@ fn call(
         b'q' => renderer_calls::call(state, words, bytes, space),
         b'f' => log_calls::fresh(state, words, buffer),
         b'g' => board_calls::fresh(state, words, slots),
-        _ => on_log(state, words, bytes, buffer, space),
+        b'd' => trail_calls::fresh(state, words, file),
+        b't' => trail_calls::call(state, words, bytes, image, file, space),
+        _ => on_log(state, words, bytes, buffer, image, space),
     }
 }
 
@@ -74,6 +82,8 @@ fn answer_line(
     bytes: &mut Bytes,
     buffer: &mut Buffer,
     slots: &mut Slots,
+    image: &mut Disk,
+    file: &mut Disk,
     space: &mut Space,
 ) -> State {
     let Reading::Words(words) = vocabulary::read(line, bytes) else {
@@ -81,7 +91,7 @@ fn answer_line(
         return state;
     };
     lent::prepare(space, words.lent);
-    let called = call(state, words, bytes, buffer, slots, space);
+    let called = call(state, words, bytes, buffer, slots, image, file, space);
     let told = called.told;
     answers::print(words, told, space);
     called.state
@@ -94,6 +104,8 @@ pub fn run(
     bytes: &mut Bytes,
     buffer: &mut Buffer,
     slots: &mut Slots,
+    image: &mut Disk,
+    file: &mut Disk,
     space: &mut Space,
 ) {
     let mut state = State::new();
@@ -107,7 +119,7 @@ pub fn run(
             return;
         }
         let whole = input::bytes_of(line, taken.length);
-        state = answer_line(state, whole, bytes, buffer, slots, space);
+        state = answer_line(state, whole, bytes, buffer, slots, image, file, space);
         if taken.ended {
             return;
         }

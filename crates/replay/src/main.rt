@@ -6,6 +6,7 @@ mod log_calls;
 mod reader_calls;
 mod renderer_calls;
 mod state;
+mod trail_calls;
 mod write_calls;
 
 use board::Board;
@@ -16,6 +17,8 @@ fn main() {
     let mut bytes = [0u8; 20000];
     let mut buffer = [0u8; 70000];
     let mut slots = [0u8; Board::BUFFER];
+    let mut image = [0u8; 90000];
+    let mut file = [0u8; 90000];
     let mut space = [0u8; 300000];
     lines::run(
         &mut chunk,
@@ -23,6 +26,8 @@ fn main() {
         &mut bytes,
         &mut buffer,
         &mut slots,
+        &mut image,
+        &mut file,
         &mut space,
     );
 }

@@ -2,6 +2,7 @@
 use board::Board;
 use log::Answer;
 use log::Log;
+use savedtrail::Reader;
 use script::answers::Told;
 
 pub struct State {
@@ -15,6 +16,14 @@ pub struct State {
     // a board was made
     pub has_board: bool,
     pub board: Board,
+    // the image that was saved last has so many bytes: 0 where none was
+    pub image: usize,
+    // a file was made, and has so many bytes
+    pub has_file: bool,
+    pub file: usize,
+    // a reader of the file was made
+    pub has_trail: bool,
+    pub trail: Reader,
 }
 
 // What a call leaves, and what it tells: of the whole state, or of the log or the board alone.
@@ -37,6 +46,7 @@ impl State {
     pub fn new() -> Self {
         let log = Log::new();
         let board = Board::new();
+        let trail = Reader::new();
         State {
             has_log: false,
             capacity: 0,
@@ -45,6 +55,11 @@ impl State {
             count: 0,
             has_board: false,
             board,
+            image: 0,
+            has_file: false,
+            file: 0,
+            has_trail: false,
+            trail,
         }
     }
 

@@ -205,9 +205,18 @@ fn end(stayed: bool) {
     }
 }
 
+// Where the bytes end that the answer counts.
+fn counted(told: Told) -> usize {
+    if told.to < told.more {
+        told.more
+    } else {
+        told.to
+    }
+}
+
 // Of the lent buffer every byte behind those that the answer counts is as it was before the call, and so is every other that should be.
 fn stayed(words: Words, told: Told, space: &[u8]) -> bool {
-    told.stayed & lent::stayed(lent::between(space, told.to, words.lent), 0)
+    told.stayed & lent::stayed(lent::between(space, counted(told), words.lent), 0)
 }
 
 // Writes the answer; `?` for a line that is no call.

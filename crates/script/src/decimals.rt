@@ -113,3 +113,8 @@ pub fn size(n: u64, most: usize) -> usize
 pub fn byte(n: u64) -> u8 {
     (n % 256) as u8
 }
+
+// A number below 2^32 as one of 32 bits.
+pub fn word(n: u64) -> u32 {
+    (n % 4294967296) as u32
+}

@@ -17,7 +17,7 @@ use crate::words::Bytes;
 use crate::words::Word;
 use crate::words::Words;
 
-pub const ROWS: [u8; 648] = *b"f0 log #70000 #255=log\n\
+pub const ROWS: [u8; 881] = *b"f0 log #70000 #255=log\n\
     l0 check=fine|numbers|heading n\n\
     l1 numbers=n n n n n n n n\n\
     l2 peek # #=h\n\
@@ -42,7 +42,13 @@ pub const ROWS: [u8; 648] = *b"f0 log #70000 #255=log\n\
     b0 deliver $=n\n\
     b1 slot #23=nothing n|n n h\n\
     q0 line $=n|n n n n n h m\n\
-    q1 console ~9223372036854775807 ~9223372036854775807=yes|no";
+    q1 console ~9223372036854775807 ~9223372036854775807=yes|no\n\
+    s0 save #4294967295 @90000=i h\n\
+    d0 disk #90000 #255=disk\n\
+    t0 cut #=cut n\n\
+    t1 patch # $=patched\n\
+    t2 trail=trail\n\
+    t3 next @5000=record n n n n h m|end|stop number n|stop save n|stop count n|stop check n|stop record n|stop unfinished n|room";
 
 // More rows than there will be.
 const ROWS_MOST: usize = 128;
