@@ -1,10 +1,10 @@
 -- Exclusive or on numbers: what the library leaves out.
-use Prim.Native.Nat.{ℕ, zero, suc, _+_, _*_, _/_, _%_, _^_, _<_}
+use Prim.Native.Nat.{ℕ, zero, suc, _+_, _*_, _/_, _%_, _<_}
 use mathlib.Core.Path.{_≡_, refl, sym, ap, ap₂, _∙_}
 use native.Mathlib.Nat.{mod-lt, zero-lt-suc}
 use native.Mathlib.Omega.{arith}
 use lib.Arith.{bin-ind, digits-div, digits-mod}
-use lib.Bits.{bitXor, differ, xor-step, xor-zero-r, xor-comm}
+use lib.Bits.{bitXor, differ, xor-step, xor-comm}
 
 two-pos : 0 < 2
 two-pos = zero-lt-suc 1
