@@ -21,8 +21,9 @@ use Rattle.savedtrail.specs.Save.{saveBy, saving}
 use Rattle.writes.specs.Write.{writeBy, outsideWrite, boxWrite}
 use Rattle.kmsg.specs.Read.{AfterRead, readRefused, readDone, readBy, reading, AfterSeek, seekRuling, seekBy, seeking}
 use Rattle.syslog.specs.Command.{commandBy, commanding}
+use Rattle.syslog.specs.Minimum.{minimumBy, settingMinimum}
 use Rattle.syslog.specs.declared.Asked.{Asked}
-use Rattle.history.specs.Calls.{outside, box, make, place, read, seek, command, save, check, console, State, Stepped, stepped, nobody, withReaders, readerOf, ifThere, afterWrite, replyRead, replySeek, step}
+use Rattle.history.specs.Calls.{outside, box, make, place, read, seek, command, save, minimum, check, console, State, Stepped, stepped, nobody, withReaders, readerOf, ifThere, afterWrite, replyRead, replySeek, step}
 use Rattle.history.specs.Demand1.{Answers, Known, tellsOvertaken, lentBack, Demand1}
 
 -- a count is not below 0
@@ -136,10 +137,19 @@ unfolding saveBy
 save-left log buffer number lent allowed = (tt, λ k e. never _ k e)
 save-left log buffer number lent (refused why) = (known-refusal why, λ k e. refl)
 
+-- ---- the minimum
+
+minimum-left : (log : Log) (buffer : List ℕ) (wanted : ℤ) (q : Ruling)
+    → let m = minimumBy (viewOf log buffer) wanted q in
+    Fits (m .answer) (withMarks log (m .marks) ≡ log)
+unfolding minimumBy viewOf
+minimum-left log buffer wanted allowed = (tt, λ k e. never _ k e)
+minimum-left log buffer wanted (refused why) = (known-refusal why, λ k e. same-marks log)
+
 -- ---- every call
 
 pub demand-1 : Demand1
-unfolding step outsideWrite boxWrite reading seeking commanding saving
+unfolding step outsideWrite boxWrite reading seeking commanding saving settingMinimum
 demand-1 s (outside time bytes) n e =
     let f = fits-at e (write-left s _ _ _) in
     record { known = f .0; state = f .1; lent = λ k z. refl }
@@ -164,5 +174,12 @@ demand-1 s (command a lent) n e =
 demand-1 s (save number lent) n e =
     let f = fits-at e (save-left (s .log) (s .buffer) number lent _) in
     record { known = f .0; state = λ k z. refl; lent = f .1 }
+demand-1 s (minimum wanted) n e =
+    let f = fits-at e (minimum-left (s .log) (s .buffer) wanted _) in
+    record {
+      known = f .0;
+      state = λ k z. ap (λ (l : Log). record { log = l; buffer = s .buffer; readers = s .readers }) (f .1 k z);
+      lent = λ k z. refl;
+    }
 demand-1 s check n e = absurd e
 demand-1 s (console level setting) n e = absurd e

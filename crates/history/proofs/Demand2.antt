@@ -25,7 +25,8 @@ use Rattle.savedtrail.specs.Save.{saveRuling, saving}
 use Rattle.writes.specs.Write.{outsideRecord, boxRecord, outsideRuling, boxRuling, writeBy, outsideWrite, boxWrite}
 use Rattle.kmsg.specs.Read.{readerAt, readRuling, readBy, reading, seekRuling, seekBy, seeking}
 use Rattle.syslog.specs.Command.{OnView, onLog, commandRuling, commandBy, commanding}
-use Rattle.history.specs.Calls.{Call, outside, box, make, place, read, seek, command, save, check, console, Reply, wrote, made, verdict, nobody, State, Stepped, stepped, withReaders, afterWrite, replyRead, replySeek, afterCommand, ifThere, step, run, stateAfter}
+use Rattle.syslog.specs.Minimum.{minimumRuling, minimumBy, settingMinimum}
+use Rattle.history.specs.Calls.{Call, outside, box, make, place, read, seek, command, save, minimum, check, console, Reply, wrote, made, verdict, nobody, State, Stepped, stepped, withReaders, afterWrite, replyRead, replySeek, afterCommand, ifThere, step, run, stateAfter}
 use Rattle.history.specs.Past.{Past, firstHeld, held, nextNumber, Told, telling, readersAt, accept, pastWrite, pastCommand, pastStep, pastRun, pastAfter, freshPast}
 use Rattle.history.specs.Demand2.{fresh, Timed, AllTimed, Demand2}
 use Rattle.history.specs.Readers.{withPastMarks}
@@ -59,9 +60,9 @@ module _ (s : State) (p : Past) (a : Agrees s p) (ok : Sound p) where
   unfolding nextOf held
   next-is = a .holds .next ∙ ap (λ (n : ℕ). n + length (held p .records)) first-is ∙ next-held p
 
-  pub level-is : s .log .console .level ≡ p .marks .level
+  pub setting-is : s .log .console ≡ p .marks .setting
   unfolding marksOf held
-  level-is = ap (λ (m : Marks). m .level) marks-are
+  setting-is = ap (λ (m : Marks). m .setting) marks-are
 
   -- the log check passes, and the call goes on from what the history holds
   pub is-fine : checked (s .log) (s .buffer) ≡ Fine
@@ -154,7 +155,7 @@ module _ (s : State) (p : Past) (a : Agrees s p) (ok : Sound p) where
 
 pub agree-step : (s : State) (p : Past) (c : Call) → Agrees s p → Sound p → Timed c
     → (step s c .reply ≡ pastStep p c .reply) × Agrees (step s c .state) (pastStep p c .past)
-unfolding step pastStep outsideWrite boxWrite reading seeking commanding saving
+unfolding step pastStep outsideWrite boxWrite reading seeking commanding saving settingMinimum
 agree-step s p (outside time bytes) a ok t =
     rw (ruled-is s p a ok (λ v. outsideRuling v bytes), ap (λ (n : ℕ). outsideRecord n time bytes) (next-is s p a ok))
     (write-step s p a ok (outsideRecord (nextNumber p) time bytes) (length bytes) (outsideRuling (held p) bytes) (outside-ready p ok time bytes t))
@@ -182,6 +183,8 @@ agree-step s p (command x lent) a ok t =
     rw (ruled-is s p a ok (λ v. commandRuling v x lent), a .same)
     (command-step s p a ok (commandBy (held p) x lent (commandRuling (held p) x lent)))
 agree-step s p (save number lent) a ok t = rw (ruled-is s p a ok (λ v. saveRuling v number lent), a .same) (refl, a)
+agree-step s p (minimum wanted) a ok t =
+    rw (ruled-is s p a ok (λ v. minimumRuling v wanted), a .same) (refl, agree-marks s p a ok (minimumBy (held p) wanted (minimumRuling (held p) wanted) .marks))
 agree-step s p check a ok t = (ap verdict (is-fine s p a ok), a)
 agree-step s p (console level setting) a ok t = (refl, a)
 

@@ -13,7 +13,7 @@ use Rattle.store.proofs.HoldsLaws.{goes}
 use Rattle.writes.specs.Write.{outsideRecord, boxRecord, outsideRuling, boxRuling}
 use Rattle.writes.specs.FineLog.{droppedMost}
 use Rattle.writes.proofs.StorableLaws.{outside-payload, box-payload}
-use Rattle.history.specs.Calls.{outside, box, make, place, read, seek, command, save, check, console, ifThere}
+use Rattle.history.specs.Calls.{outside, box, make, place, read, seek, command, save, minimum, check, console, ifThere}
 use Rattle.history.specs.Past.{Past, firstHeld, held, Told, nextNumber, pastWrite, pastStep}
 use Rattle.history.specs.Readers.{FewDropped, DropsFew}
 use Rattle.history.proofs.HeldLaws.{held-longest, first-grown}
@@ -52,5 +52,6 @@ drops-few p l (read i lent) = few-there (ltb i (length (p .readers))) _ _ tt tt
 drops-few p l (seek i offset whence) = few-there (ltb i (length (p .readers))) _ _ tt tt
 drops-few p l (command a lent) = tt
 drops-few p l (save number lent) = tt
+drops-few p l (minimum wanted) = tt
 drops-few p l check = tt
 drops-few p l (console level setting) = tt

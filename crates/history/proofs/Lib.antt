@@ -9,3 +9,4 @@ pub mod ListedProof
 pub mod ListedRuns
 pub mod WrongProof
 pub mod OnTheLog
+pub mod LevelKept

@@ -35,12 +35,13 @@ use Rattle.writes.specs.Write.{outsideRuling, boxRuling, writeBy, outsideWrite,
 use Rattle.kmsg.specs.Read.{lineAt, readRuling, readRefused, readDone, readBy, reading, seekRuling, seekBy, seeking}
 use Rattle.kmsg.specs.declared.Reader.{Reader}
 use Rattle.syslog.specs.Command.{copies, isKnown, isPermitted, wantsLevel, unread, commandRuling, count, commandBy, commanding}
+use Rattle.syslog.specs.Minimum.{minimumRuling, minimumBy, settingMinimum}
 use Rattle.syslog.proofs.UnreadLaws.{nothing-unread as nothing-unread-law}
 use Rattle.syslog.specs.declared.Asked.{Asked}
-use Rattle.history.specs.Calls.{Call, outside, box, make, place, read, seek, command, save, check, console, State, Stepped, readerOf, ifThere, step}
+use Rattle.history.specs.Calls.{Call, outside, box, make, place, read, seek, command, save, minimum, check, console, State, Stepped, readerOf, ifThere, step}
 use Rattle.history.specs.Demand1.{Answers, table, tableNumber}
-use Rattle.history.specs.Listed.{Applies, check-fails, above-next, without-privilege, offset-not-0, other-whence, unknown-type, len-below-0, level-outside, over-960, over-960-together, zero-byte, bad-facility, bad-level, bad-dictionary, line-longer, above-lent, short-of-image, outside-at-last, box-at-last, below-first, at-next, nothing-unread, readTable, order, Asking, IsCount, Listed, answered}
-use Rattle.history.proofs.ListedTests.{is-says, barred-says, outside-says, box-says, command-says, nothing, unread-says, lent-says, whence-says, length-image}
+use Rattle.history.specs.Listed.{Applies, check-fails, above-next, without-privilege, offset-not-0, other-whence, unknown-type, len-below-0, level-outside, minimum-outside, over-960, over-960-together, zero-byte, bad-facility, bad-level, bad-dictionary, line-longer, above-lent, short-of-image, outside-at-last, box-at-last, below-first, at-next, nothing-unread, readTable, order, Asking, IsCount, Listed, answered}
+use Rattle.history.proofs.ListedTests.{is-says, barred-says, level-says, outside-says, box-says, command-says, nothing, unread-says, lent-says, whence-says, length-image}
 
 -- ---- a test for each row
 
@@ -94,6 +95,7 @@ test bad v readers (command a lent) =
     (copies (a .command) && ltb (length lent) (natural (a .len))) false false
     (is (a .command) 2 && (ltb 0 (natural (a .len)) && nothing v))
 test bad v readers (save number lent) = row bad false false false (ltb (length lent) (length (imageFor v number))) false false false
+test bad v readers (minimum wanted) = row bad false false (not (wantsLevel wanted)) false false false false
 test bad v readers check = row bad false false false false false false false
 test bad v readers (console level setting) = row bad false false false false false false false
 
@@ -161,6 +163,8 @@ module _ (failing : Type 0) (bad : Bool) (bs : bad ≡ true → failing) (bc : f
       (λ e. let k = unread-says v a .says e in nothing-unread (k .0) (k .1 .0 .is) (k .1 .0 .more) (k .1 .1)) r q
   sound (save number lent) r q =
       by-row (Row (save number lent)) (λ e. check-fails (bs e)) never never never (short-sound number lent) never never never r q
+  sound (minimum wanted) r q =
+      by-row (Row (minimum wanted)) (λ e. check-fails (bs e)) never never (λ e. minimum-outside (level-says wanted .says e)) never never never never r q
   sound check r q = by-row (Row check) (λ e. check-fails (bs e)) never never never never never never never r q
   sound (console level setting) r q = by-row (Row (console level setting)) (λ e. check-fails (bs e)) never never never never never never never r q
 
@@ -174,6 +178,7 @@ module _ (failing : Type 0) (bad : Bool) (bs : bad ≡ true → failing) (bc : f
   bad-first (seek i offset whence) e = e
   bad-first (command a lent) e = e
   bad-first (save number lent) e = e
+  bad-first (minimum wanted) e = e
   bad-first check e = e
   bad-first (console level setting) e = e
 
@@ -187,6 +192,7 @@ module _ (failing : Type 0) (bad : Bool) (bs : bad ≡ true → failing) (bc : f
   complete c r (unknown-type {a} {lent} h) = command-says a .told (inl h)
   complete c r (len-below-0 {a} {lent} {n} k z) = command-says a .told (inr (inl (k, record { size = n; is = z })))
   complete c r (level-outside {a} {lent} t h) = command-says a .told (inr (inr (t, h)))
+  complete c r (minimum-outside {wanted} h) = level-says wanted .told h
   complete c r (over-960 {time} {bytes} h) = outside-says bytes .told (inl h)
   complete c r (zero-byte {time} {bytes} h) = outside-says bytes .told (inr h)
   complete c r (over-960-together {facility} {level} {time} {text} {dictionary} h) = box-says facility level text dictionary .told (inr (inr (inl h)))
@@ -288,6 +294,7 @@ rows-apart (read i lent) k = numbered code readTable tableNumber (pos k) refl
 rows-apart (seek i offset whence) k = numbered code table tableNumber (pos k) refl
 rows-apart (command a lent) k = numbered code table tableNumber (pos k) refl
 rows-apart (save number lent) k = numbered code table tableNumber (pos k) refl
+rows-apart (minimum wanted) k = numbered code table tableNumber (pos k) refl
 rows-apart check k = numbered code table tableNumber (pos k) refl
 rows-apart (console level setting) k = numbered code table tableNumber (pos k) refl
 
@@ -357,6 +364,11 @@ unfolding saveBy
 save-number v number lent allowed = refl
 save-number v number lent (refused why) = refl
 
+pub minimum-number : (v : View) (wanted : ℤ) (q : Ruling) → minimumBy v wanted q .answer ≡ numberBy (pos 0) q
+unfolding minimumBy
+minimum-number v wanted allowed = refl
+minimum-number v wanted (refused why) = refl
+
 command-first : (v : View) (readers : List ℕ) (a : Asked) (lent : List ℕ) (bad : Bool) (done : ℤ) → (bad ≡ false → eqb (length (unread v)) 0 ≡ nothing v)
     → numberBy done (checkedFirst bad (commandRuling v a lent)) ≡ firstRow table (test bad v readers (command a lent)) done
 unfolding commandRuling
@@ -397,7 +409,7 @@ module _ (s : State) (failing : Type 0) (bs : isBad (checked (s .log) (s .buffer
   there false x y n e f = absurd (false≢true e)
 
   pub listed : (c : Call) → Asking (s .readers) c → Listed failing view (s .readers) c (answered s c)
-  unfolding step outsideWrite boxWrite reading seeking commanding saving outsideRuling boxRuling readRuling seekRuling saveRuling
+  unfolding step outsideWrite boxWrite reading seeking commanding saving settingMinimum outsideRuling boxRuling readRuling seekRuling saveRuling minimumRuling
   listed (outside time bytes) h =
       record {
         answer = outsideWrite (s .log) (s .buffer) time bytes .answer;
@@ -464,6 +476,16 @@ module _ (s : State) (failing : Type 0) (bs : isBad (checked (s .log) (s .buffer
             (save-number view number lent _
             ∙ ruled-number (λ v. saveRuling v number lent) (pos k)
             ∙ first-save wrong (ltb (length lent) k) (pos k));
+      }
+  listed (minimum wanted) h =
+      record {
+        answer = settingMinimum (s .log) (s .buffer) wanted .answer;
+        answers = refl;
+        exactly =
+            exact (minimum wanted) 0 _
+            (minimum-number view wanted _
+            ∙ ruled-number (λ v. minimumRuling v wanted) (pos 0)
+            ∙ first-seek wrong false (not (wantsLevel wanted)) (pos 0));
       }
   listed check h = absurd h
   listed (console level setting) h = absurd h

@@ -19,7 +19,7 @@ use Rattle.log.specs.declared.Refusal.{Refusal}
 use Rattle.log.specs.declared.Refusal.the-variants.{EBADFD, EINVAL, EPIPE, EAGAIN}
 use Rattle.writes.specs.Write.{outsideRecord, boxRecord, outsideRuling, boxRuling}
 use Rattle.kmsg.specs.Read.{readerAt, AfterRead, lineAt, readRuling, stay, readRefused, readDone, readBy, seekRuling, seekBy}
-use Rattle.history.specs.Calls.{Call, outside, box, make, place, read, seek, command, save, check, console, Reply, nobody, replyRead, replySeek, ifThere}
+use Rattle.history.specs.Calls.{Call, outside, box, make, place, read, seek, command, save, minimum, check, console, Reply, nobody, replyRead, replySeek, ifThere}
 use Rattle.history.specs.Past.{Past, firstHeld, held, Told, telling, readersAt, nextNumber, pastWrite, pastRead, pastStep, pastRun, pastAfter}
 use Rattle.history.specs.Readers.{Overtaken, OvertakenExactly, Heard, lost, answerHeard, replyHeard, callHeard, heard, Leaves, AllLeave, InOrder, ReadsInOrder, OnlyReads, Unmoved}
 use Rattle.history.proofs.HeldLaws.{first-in, next-held, record-held}
@@ -140,6 +140,7 @@ extends-step p (read i lent) = extends-there p (ltb i (length (p .readers))) _ _
 extends-step p (seek i offset whence) = extends-there p (ltb i (length (p .readers))) _ _
 extends-step p (command a lent) = extends-self (p .all)
 extends-step p (save number lent) = extends-self (p .all)
+extends-step p (minimum wanted) = extends-self (p .all)
 extends-step p check = extends-self (p .all)
 extends-step p (console level setting) = extends-self (p .all)
 
@@ -188,6 +189,7 @@ module _ (p : Past) (i : ℕ) (h : i < length (p .readers)) where
       keeps-there j (g .reader .next .0) (ltb j (length (p .readers))) (replySeek g) l
   keeps-step (command a lent) l = record { there = h; number = refl }
   keeps-step (save number lent) l = keeps-self
+  keeps-step (minimum wanted) l = record { there = h; number = refl }
   keeps-step check l = keeps-self
   keeps-step (console level setting) l = keeps-self
 
@@ -246,6 +248,7 @@ step-adds all p i (read j lent) h l x = read-adds all p i j lent h x
 step-adds all p i (seek j offset whence) h l x = keeps-adds all p i _ (keeps-step p i h (seek j offset whence) l)
 step-adds all p i (command a lent) h l x = keeps-adds all p i _ (keeps-step p i h (command a lent) tt)
 step-adds all p i (save number lent) h l x = keeps-adds all p i _ (keeps-step p i h (save number lent) tt)
+step-adds all p i (minimum wanted) h l x = keeps-adds all p i _ (keeps-step p i h (minimum wanted) tt)
 step-adds all p i check h l x = keeps-adds all p i _ (keeps-step p i h check tt)
 step-adds all p i (console level setting) h l x = keeps-adds all p i _ (keeps-step p i h (console level setting) tt)
 

@@ -6,9 +6,10 @@ use mathlib.Core.List.{List, [], _∷_, _++_}
 use native.Mathlib.Omega.{arith}
 use native.Mathlib.Nat.{zero-add}
 use lib.Dec.{ltb}
-use lib.IntN.{pos}
+use lib.IntN.{ℤ, pos}
 use lib.ListN
 use lib.ListN.{length, length-append}
+use Rattle.console.specs.Console.{savedFits, settingFits}
 use Rattle.record.specs.Limits.{capacityLeast, wordMost}
 use Rattle.record.specs.Record.{Record, cost}
 use Rattle.log.specs.Answer.{Ruling, allowed, refused}
@@ -23,7 +24,9 @@ use Rattle.writes.proofs.StorableLaws.{outside-storable, outside-next, box-stor
 use Rattle.syslog.specs.Command.{commandRuling, marksAfter, commandBy}
 use Rattle.syslog.specs.declared.Asked.{Asked}
 use Rattle.syslog.proofs.CommandLaws.{withViewMarks, command-marked, command-on}
-use Rattle.history.specs.Calls.{Call, outside, box, make, place, read, seek, command, save, check, console, Reply, nobody, ifThere}
+use Rattle.syslog.specs.Minimum.{minimumRuling, minimumBy}
+use Rattle.syslog.proofs.MinimumLaws.{minimum-marked}
+use Rattle.history.specs.Calls.{Call, outside, box, make, place, read, seek, command, save, minimum, check, console, Reply, nobody, ifThere}
 use Rattle.history.specs.Past.{Past, firstHeld, held, nextNumber, Told, telling, readersAt, accept, pastWrite, pastStep, pastAfter, freshPast}
 use Rattle.history.specs.Demand2.{Timed, AllTimed}
 use Rattle.history.specs.Readers.{withPastMarks, NumberedInOrder, ReadsOn}
@@ -115,6 +118,11 @@ module _ (p : Past) (s : Sound p) where
   marked-by a lent allowed e = command-marked (held p) (s .marked) (numbered-held p s) a lent e
   marked-by a lent (refused why) e = s .marked
 
+  pub minimum-marked-by : (wanted : ℤ) (q : Ruling) → Marked (held p .first) (held p .records) (minimumBy (held p) wanted q .marks)
+  unfolding minimumBy
+  minimum-marked-by wanted allowed = minimum-marked (held p) wanted (s .marked)
+  minimum-marked-by wanted (refused why) = s .marked
+
 -- ---- every call
 
 pub sound-step : (p : Past) (c : Call) → Sound p → Timed c → Sound (pastStep p c .past)
@@ -132,6 +140,9 @@ sound-step p (command a lent) s t =
     let c = commandBy (held p) a lent (commandRuling (held p) a lent) in
     sound-marks p s (c .marks) (marked-by p s a lent _ refl)
 sound-step p (save number lent) s t = s
+sound-step p (minimum wanted) s t =
+    let m = minimumBy (held p) wanted (minimumRuling (held p) wanted) in
+    sound-marks p s (m .marks) (minimum-marked-by p s wanted _)
 sound-step p check s t = s
 sound-step p (console level setting) s t = s
 
@@ -141,7 +152,7 @@ sound-after [] p s t = s
 sound-after (c ∷ cs) p s t = sound-after cs (pastStep p c .past) (sound-step p c s (t .0)) (t .1)
 
 pub sound-fresh : (capacity : ℕ) → capacityLeast ≤ capacity → Sound (freshPast capacity)
-unfolding freshPast held firstHeld excess
+unfolding freshPast held firstHeld excess settingFits savedFits
 sound-fresh capacity l =
     record {
       large = l;
@@ -150,8 +161,7 @@ sound-fresh capacity l =
       marked = record {
         clear-in = omega arith;
         position-fits = record { in-range = omega arith; at-next = λ e. refl; inside = λ x y. absurd (omega arith); small = omega arith };
-        level-low = omega arith;
-        level-high = omega arith;
+        setting-fits = refl;
       };
     }
 

@@ -9,6 +9,7 @@ use lib.IntN.{pos}
 use lib.ListN.{length, replicate}
 use Rattle.slices.specs.Tests.{allBytes}
 use Rattle.slices.specs.Listed.{Earlier}
+use Rattle.console.specs.Console.{settingFresh, savedFits, settingFits}
 use Rattle.record.specs.Limits.{payloadMost, wordMost}
 use Rattle.ring.specs.Ring.{unrolled}
 use Rattle.log.specs.Answer.{refusalNumber, Ruling, allowed, refused, natural}
@@ -21,13 +22,14 @@ use Rattle.store.proofs.MarkLaws.{fine}
 use Rattle.savedtrail.specs.Save.{imageFor, saveRuling, saving}
 use Rattle.writes.specs.Write.{outsideRuling, boxRuling, outsideWrite, boxWrite}
 use Rattle.syslog.specs.Command.{commandRuling, count, commanding}
+use Rattle.syslog.specs.Minimum.{minimumRuling, settingMinimum}
 use Rattle.syslog.specs.declared.Asked.{Asked}
-use Rattle.history.specs.Calls.{Call, outside, box, make, place, read, seek, command, save, check, console, State, step}
+use Rattle.history.specs.Calls.{Call, outside, box, make, place, read, seek, command, save, minimum, check, console, State, step}
 use Rattle.history.specs.Demand1.{table}
-use Rattle.history.specs.Listed.{Open, Applies, check-fails, without-privilege, over-960, over-960-together, zero-byte, bad-facility, bad-level, bad-dictionary, short-of-image, outside-at-last, Listed, AsListed, answered}
-use Rattle.history.specs.Wrong.{ruledBy, refuseAll, overflowFirst, oneByteMore, zeroTaken, zeroFromBox, invalidFirst, savesBy, anyBuffer, WrongRefused}
+use Rattle.history.specs.Listed.{Open, Applies, check-fails, without-privilege, over-960, over-960-together, zero-byte, bad-facility, bad-level, bad-dictionary, short-of-image, minimum-outside, outside-at-last, Listed, AsListed, answered}
+use Rattle.history.specs.Wrong.{ruledBy, refuseAll, overflowFirst, oneByteMore, zeroTaken, zeroFromBox, invalidFirst, savesBy, anyBuffer, minimumRuledBy, nineTaken, WrongRefused}
 use Rattle.history.proofs.Demand1.{never}
-use Rattle.history.proofs.ListedProof.{numberBy, rows-apart, by-check, write-number, command-number, save-number}
+use Rattle.history.proofs.ListedProof.{numberBy, rows-apart, by-check, write-number, command-number, save-number, minimum-number}
 
 -- a log that holds nothing, with n its next number
 empty : ℕ → State
@@ -41,22 +43,21 @@ empty n =
         clear = record { 0 = n };
         position = record { 0 = n };
         offset = 0;
-        console = record { level = 7 };
+        console = settingFresh;
       };
       buffer = replicate 1024 0;
       readers = [];
     }
 
 empty-fine : (n : ℕ) → checked (empty n .log) (empty n .buffer) ≡ Fine
-unfolding empty marksOf unrolled
+unfolding empty marksOf unrolled settingFits savedFits
 empty-fine n =
     fine (empty n .log) (empty n .buffer) []
     (record { within = record { start-in = omega arith; used-in = omega arith }; bytes = refl; numbered = tt; next = omega arith })
     (record {
       clear-in = omega arith;
       position-fits = record { in-range = omega arith; at-next = λ e. refl; inside = λ l h. absurd (omega arith); small = omega arith };
-      level-low = omega arith;
-      level-high = omega arith;
+      setting-fits = refl;
     })
     (omega arith) (omega arith)
 
@@ -237,6 +238,30 @@ short-refused f =
     in
     never k 13 (a ∙ y)
 
+abbrev MinimumRow : Refusal → Type 0
+MinimumRow e = Applies (checked (empty 0 .log) (empty 0 .buffer) ≡ Fine → ⊥) (view 0) (empty 0 .readers) (minimum (pos 9)) e
+
+none-before-outside : (e : Refusal) → Earlier e EINVAL table → MinimumRow e → ⊥
+none-before-outside EBADFD k h = elim h [ check-fails g ↦ g (empty-fine 0) ]
+none-before-outside EPERM k h = elim h [ ]
+none-before-outside ESPIPE k h = elim h [ ]
+none-before-outside EINVAL k h = rows-apart (minimum (pos 9)) 0 .once EINVAL k
+none-before-outside EFAULT k h = elim h [ ]
+none-before-outside EOVERFLOW k h = elim h [ ]
+none-before-outside EPIPE k h = elim h [ ]
+none-before-outside EAGAIN k h = elim h [ ]
+
+nine-refused : AsListed (minimumRuledBy nineTaken) → ⊥
+nine-refused f =
+    let x = f (empty 0) (bytes-of 0) (minimum (pos 9)) tt in
+    let a : pos 0 ≡ x .answer =
+    ap (numberBy (pos 0)) (sym (by-ruling 0 (λ v. nineTaken v (pos 9)))) ∙ sym (minimum-number (view 0) (pos 9) _) ∙ x .answers
+    in
+    let y : x .answer ≡ refusalNumber EINVAL =
+    x .exactly .always EINVAL (inr (inr (inr (inl refl)))) (minimum-outside (λ n l h e. other 9 n e (omega arith))) none-before-outside
+    in
+    never 0 21 (a ∙ y)
+
 ours : (s : State) (c : Call) → ruledBy outsideRuling boxRuling commandRuling s c ≡ answered s c
 unfolding step outsideWrite boxWrite commanding
 ours s (outside time bytes) = refl
@@ -247,6 +272,7 @@ ours s (read i lent) = refl
 ours s (seek i offset whence) = refl
 ours s (command a lent) = refl
 ours s (save number lent) = refl
+ours s (minimum wanted) = refl
 ours s check = refl
 ours s (console level setting) = refl
 
@@ -260,8 +286,23 @@ ours-saving s (read i lent) = refl
 ours-saving s (seek i offset whence) = refl
 ours-saving s (command a lent) = refl
 ours-saving s (save number lent) = refl
+ours-saving s (minimum wanted) = refl
 ours-saving s check = refl
 ours-saving s (console level setting) = refl
+
+ours-minimum : (s : State) (c : Call) → minimumRuledBy minimumRuling s c ≡ answered s c
+unfolding step settingMinimum
+ours-minimum s (outside time bytes) = refl
+ours-minimum s (box facility level time text dictionary) = refl
+ours-minimum s make = refl
+ours-minimum s (place i n) = refl
+ours-minimum s (read i lent) = refl
+ours-minimum s (seek i offset whence) = refl
+ours-minimum s (command a lent) = refl
+ours-minimum s (save number lent) = refl
+ours-minimum s (minimum wanted) = refl
+ours-minimum s check = refl
+ours-minimum s (console level setting) = refl
 
 pub wrong-refused : WrongRefused
 wrong-refused =
@@ -275,4 +316,6 @@ wrong-refused =
       invalid = invalid-refused;
       ours-saving = ours-saving;
       short = short-refused;
+      ours-minimum = ours-minimum;
+      nine = nine-refused;
     }

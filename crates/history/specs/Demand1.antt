@@ -11,7 +11,7 @@ use lib.ListN
 use Rattle.slices.specs.Listed.{In}
 use Rattle.log.specs.declared.Refusal.{Refusal}
 use Rattle.log.specs.declared.Refusal.the-variants.{EBADFD, EPERM, ESPIPE, EINVAL, EFAULT, EOVERFLOW, EPIPE, EAGAIN}
-use Rattle.history.specs.Calls.{Call, outside, box, make, place, read, seek, command, save, check, console, Reply, wrote, made, set, gave, sought, told, verdict, shown, nobody, State, withReaders, step}
+use Rattle.history.specs.Calls.{Call, outside, box, make, place, read, seek, command, save, minimum, check, console, Reply, wrote, made, set, gave, sought, told, verdict, shown, nobody, State, withReaders, step}
 
 -- the reply answers this number; a call that only makes a reader, sets one, checks the log or asks the console question answers none
 abbrev pub Answers : Reply → ℤ → Type 0
@@ -60,6 +60,7 @@ lentTo (read i lent) = lent
 lentTo (seek i offset whence) = []
 lentTo (command a lent) = lent
 lentTo (save number lent) = lent
+lentTo (minimum wanted) = []
 lentTo check = []
 lentTo (console level setting) = []
 
@@ -84,6 +85,7 @@ leftBy s (read i lent) n = cond (tellsOvertaken n) (withReaders s (lib.ListN.set
 leftBy s (seek i offset whence) n = s
 leftBy s (command a lent) n = s
 leftBy s (save number lent) n = s
+leftBy s (minimum wanted) n = s
 leftBy s check n = s
 leftBy s (console level setting) n = s
 

@@ -5,3 +5,4 @@ pub mod Demand2
 pub mod Listed
 pub mod Wrong
 pub mod Readers
+pub mod LevelKept

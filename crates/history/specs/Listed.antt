@@ -20,7 +20,7 @@ use Rattle.log.specs.declared.Verdict.the-variants.{Fine}
 use Rattle.log.specs.declared.Refusal.{Refusal}
 use Rattle.log.specs.declared.Refusal.the-variants.{EBADFD, EPERM, ESPIPE, EINVAL, EFAULT, EOVERFLOW, EPIPE, EAGAIN}
 use Rattle.syslog.specs.declared.Asked.{Asked}
-use Rattle.history.specs.Calls.{Call, outside, box, make, place, read, seek, command, save, check, console, Reply, State, step, stateAfter}
+use Rattle.history.specs.Calls.{Call, outside, box, make, place, read, seek, command, save, minimum, check, console, Reply, State, step, stateAfter}
 use Rattle.history.specs.Past.{held, pastAfter, freshPast}
 use Rattle.history.specs.Demand1.{Answers, table, tableNumber}
 use Rattle.history.specs.Demand2.{fresh, AllTimed}
@@ -56,6 +56,8 @@ pub data Applies (fails : Type 0) (v : View) (readers : List ℕ) : Call → Ref
   -- level outside 1..8 (8);
   level-outside : {a : Asked} {lent : List ℕ} → a .command ≡ pos 8 → ((n : ℕ) → 1 ≤ n → n ≤ 8 → a .len ≡ pos n → ⊥)
       → Applies fails v readers (command a lent) EINVAL
+  -- a minimum outside 1..8 (document 02, ticket 4);
+  minimum-outside : {wanted : ℤ} → ((n : ℕ) → 1 ≤ n → n ≤ 8 → wanted ≡ pos n → ⊥) → Applies fails v readers (minimum wanted) EINVAL
   -- over 960 bytes;
   over-960 : {time : ℕ} {bytes : List ℕ} → 960 < length bytes → Applies fails v readers (outside time bytes) EINVAL
   over-960-together : {facility level time : ℕ} {text dictionary : List ℕ} → 960 < length text + length dictionary
@@ -106,6 +108,7 @@ order (read i lent) = readTable
 order (seek i offset whence) = table
 order (command a lent) = table
 order (save number lent) = table
+order (minimum wanted) = table
 order check = table
 order (console level setting) = table
 
@@ -121,6 +124,7 @@ Asking readers (read i lent) = i < length readers
 Asking readers (seek i offset whence) = i < length readers
 Asking readers (command a lent) = Unit {0}
 Asking readers (save number lent) = Unit {0}
+Asking readers (minimum wanted) = Unit {0}
 Asking readers check = ⊥
 Asking readers (console level setting) = ⊥
 

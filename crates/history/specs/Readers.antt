@@ -15,7 +15,7 @@ use Rattle.log.specs.declared.Refusal.the-variants.{EPIPE}
 use Rattle.writes.specs.FineLog.{droppedMost}
 use Rattle.kmsg.specs.Read.{readerAt, AfterRead, readRuling, readBy, reading}
 use Rattle.syslog.specs.Command.{unread, marksAfter}
-use Rattle.history.specs.Calls.{Call, outside, box, make, place, read, seek, command, save, check, console, Reply, wrote, made, set, gave, sought, told, verdict, shown, nobody, run, stateAfter}
+use Rattle.history.specs.Calls.{Call, outside, box, make, place, read, seek, command, save, minimum, check, console, Reply, wrote, made, set, gave, sought, told, verdict, shown, nobody, run, stateAfter}
 use Rattle.history.specs.Past.{Past, firstHeld, held, pastStep, pastRun, pastAfter, freshPast}
 use Rattle.history.specs.Demand1.{tellsOvertaken}
 use Rattle.history.specs.Demand2.{fresh, AllTimed}
@@ -65,6 +65,7 @@ callHeard i (read j lent) r = cond (eqb j i) (replyHeard r) []
 callHeard i (seek j offset whence) r = []
 callHeard i (command a lent) r = []
 callHeard i (save number lent) r = []
+callHeard i (minimum wanted) r = []
 callHeard i check r = []
 callHeard i (console level setting) r = []
 
@@ -83,6 +84,7 @@ Leaves i (read j lent) = Unit {0}
 Leaves i (seek j offset whence) = i ≡ j → ⊥
 Leaves i (command a lent) = Unit {0}
 Leaves i (save number lent) = Unit {0}
+Leaves i (minimum wanted) = Unit {0}
 Leaves i check = Unit {0}
 Leaves i (console level setting) = Unit {0}
 
@@ -118,6 +120,7 @@ OnlyReads i (read j lent) = i ≡ j → ⊥
 OnlyReads i (seek j offset whence) = i ≡ j → ⊥
 OnlyReads i (command a lent) = Unit {0}
 OnlyReads i (save number lent) = Unit {0}
+OnlyReads i (minimum wanted) = Unit {0}
 OnlyReads i check = Unit {0}
 OnlyReads i (console level setting) = Unit {0}
 

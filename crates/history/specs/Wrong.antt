@@ -5,6 +5,7 @@ use mathlib.Core.Path.{_≡_}
 use mathlib.Core.Bool.{not, _&&_}
 use mathlib.Core.List.{List, [], _∷_}
 use lib.Dec.{ltb, eqb}
+use lib.IntN.{ℤ}
 use lib.ListN.{length}
 use Rattle.slices.specs.Cut.{has}
 use Rattle.record.specs.Limits.{payloadMost}
@@ -15,8 +16,9 @@ use Rattle.log.specs.declared.Refusal.the-variants.{EPERM, EINVAL, EFAULT, EAGA
 use Rattle.savedtrail.specs.Save.{saveRuling, saveBy}
 use Rattle.writes.specs.Write.{outsideRecord, boxRecord, numbersOver, boxTests, outsideRuling, boxRuling, writeBy}
 use Rattle.syslog.specs.Command.{copies, isKnown, isPermitted, wantsLevel, unread, commandRuling, commandBy, onLog}
+use Rattle.syslog.specs.Minimum.{minimumRuling, minimumBy, onNumbers}
 use Rattle.syslog.specs.declared.Asked.{Asked}
-use Rattle.history.specs.Calls.{Call, outside, box, make, place, read, seek, command, save, check, console, Reply, State, afterWrite, afterCommand, afterSave}
+use Rattle.history.specs.Calls.{Call, outside, box, make, place, read, seek, command, save, minimum, check, console, Reply, State, afterWrite, afterCommand, afterSave, afterMinimum}
 use Rattle.history.specs.Listed.{AsListed, answered}
 
 -- our log, but for the rulings on a write from outside, on one from the box and on a command
@@ -39,6 +41,7 @@ ruledBy onWrite onBox onCommand s (command a lent) =
     (onLog (s .log) (commandBy (viewOf (s .log) (s .buffer)) a lent (ruled (s .log) (s .buffer) (λ v. onCommand v a lent))))
     .reply
 ruledBy onWrite onBox onCommand s (save number lent) = answered s (save number lent)
+ruledBy onWrite onBox onCommand s (minimum wanted) = answered s (minimum wanted)
 ruledBy onWrite onBox onCommand s check = answered s check
 ruledBy onWrite onBox onCommand s (console level setting) = answered s (console level setting)
 
@@ -85,12 +88,32 @@ savesBy onSave s (seek i offset whence) = answered s (seek i offset whence)
 savesBy onSave s (command a lent) = answered s (command a lent)
 savesBy onSave s (save number lent) =
     afterSave s (saveBy (viewOf (s .log) (s .buffer)) number lent (ruled (s .log) (s .buffer) (λ v. onSave v number lent))) .reply
+savesBy onSave s (minimum wanted) = answered s (minimum wanted)
 savesBy onSave s check = answered s check
 savesBy onSave s (console level setting) = answered s (console level setting)
 
 -- -14 left out: saved into any buffer
 abbrev pub anyBuffer : View → ℕ → List ℕ → Ruling
 anyBuffer v number lent = allowed
+
+-- our log, but for the ruling on the minimum
+abbrev pub minimumRuledBy : (View → ℤ → Ruling) → State → Call → Reply
+minimumRuledBy onMinimum s (outside time bytes) = answered s (outside time bytes)
+minimumRuledBy onMinimum s (box facility level time text dictionary) = answered s (box facility level time text dictionary)
+minimumRuledBy onMinimum s make = answered s make
+minimumRuledBy onMinimum s (place i n) = answered s (place i n)
+minimumRuledBy onMinimum s (read i lent) = answered s (read i lent)
+minimumRuledBy onMinimum s (seek i offset whence) = answered s (seek i offset whence)
+minimumRuledBy onMinimum s (command a lent) = answered s (command a lent)
+minimumRuledBy onMinimum s (save number lent) = answered s (save number lent)
+minimumRuledBy onMinimum s (minimum wanted) =
+    afterMinimum s (onNumbers (s .log) (minimumBy (viewOf (s .log) (s .buffer)) wanted (ruled (s .log) (s .buffer) (λ v. onMinimum v wanted)))) .reply
+minimumRuledBy onMinimum s check = answered s check
+minimumRuledBy onMinimum s (console level setting) = answered s (console level setting)
+
+-- 9 taken, as one more than the levels
+abbrev pub nineTaken : View → ℤ → Ruling
+nineTaken v wanted = rulingOf ((not (wantsLevel wanted) && not (is wanted 9), EINVAL) ∷ [])
 
 pub record WrongRefused : Type 0 where
   -- with our own rulings it is our log
@@ -103,3 +126,5 @@ pub record WrongRefused : Type 0 where
   pub invalid : AsListed (ruledBy outsideRuling boxRuling invalidFirst) → ⊥
   pub ours-saving : (s : State) (c : Call) → savesBy saveRuling s c ≡ answered s c
   pub short : AsListed (savesBy anyBuffer) → ⊥
+  pub ours-minimum : (s : State) (c : Call) → minimumRuledBy minimumRuling s c ≡ answered s c
+  pub nine : AsListed (minimumRuledBy nineTaken) → ⊥

@@ -16,7 +16,7 @@ use Rattle.slices.specs.declared.Placed.the-variants.{End, NoRoom}
 use Rattle.slices.proofs.Bools.{or-true}
 use Rattle.record.specs.Limits.{payloadMost}
 use Rattle.record.specs.Record.{Record}
-use Rattle.console.specs.Console.{isLevel, levelSet, setTo, setNumber}
+use Rattle.console.specs.Console.{isLevel, levelSet, setTo, minimumSet, withMinimum, setNumber}
 use Rattle.console.specs.declared.Console.{Console}
 use Rattle.image.specs.Read.{Turn, taken, over}
 use Rattle.image.specs.Plain.{plain, edition}
@@ -36,7 +36,7 @@ use Rattle.history.specs.Calls.{Reply, wrote, made, set, gave, sought, told, ve
 use Rattle.history.specs.Demand1.{Answers}
 use Rattle.history.specs.Demand1.{Known as InTable}
 use Rattle.history.proofs.Demand1.{demand-1}
-use Rattle.product.specs.Calls.{Box, Call, onLog, turnOff, turnOn, setLevel, line, delivery, receiver, trailNext, number, byReader, byBoard, printed, noRoom, other, replied, placedAt, trailTold, withLog, withConsole, withTrail, called, handed}
+use Rattle.product.specs.Calls.{Box, Call, onLog, turnOff, turnOn, setLevel, setMinimum, line, delivery, receiver, trailNext, number, byReader, byBoard, printed, noRoom, other, replied, placedAt, trailTold, withLog, withConsole, withTrail, called, handed}
 use Rattle.product.specs.Demand1.{Known, Refuses, left, Demand1}
 
 -- ---- the log
@@ -74,14 +74,21 @@ level-known : (t : Bool) → InTable (cond t (pos 0) (negsuc 21))
 level-known true = tt
 level-known false = inr (inr (inr (inl refl)))
 
-level-left : (t : Bool) (setting : Console) (level : ℕ) → Refuses (number (cond t (pos 0) (negsuc 21)))
-    → _≡_ {A = Console} (record { level = cond t level (setting .level) }) setting
-level-left true setting level f = absurd f
-level-left false setting level f = refl
+no-level : (level : ℕ) → Refuses (number (setNumber level)) → isLevel level ≡ false
+unfolding setNumber
+no-level level = go (isLevel level)
+  where
+    go : (t : Bool) → Refuses (number (cond t (pos 0) (negsuc 21))) → t ≡ false
+    go true f = absurd f
+    go false f = refl
 
 set-left : (setting : Console) (level : ℕ) → Refuses (number (setNumber level)) → setTo setting level ≡ setting
-unfolding levelSet setNumber
-set-left setting level f = level-left (isLevel level) setting level f
+unfolding setTo levelSet
+set-left setting level f = rw (no-level level f)
+
+minimum-left : (setting : Console) (level : ℕ) → Refuses (number (setNumber level)) → withMinimum setting level ≡ setting
+unfolding withMinimum minimumSet
+minimum-left setting level f = rw (no-level level f)
 
 -- ---- the receiving end
 
@@ -221,6 +228,7 @@ known b (onLog c) = log-known (step (b .log) c .reply) (λ n e. demand-1 (b .log
 known b turnOff = tt
 known b turnOn = tt
 known b (setLevel level) = level-known (isLevel level)
+known b (setMinimum level) = level-known (isLevel level)
 known b (line m result numbers) = line-known m result numbers
 known b (delivery m) = board-known (b .board) m
 known b (receiver input buffer out) = out-known input buffer out
@@ -234,6 +242,7 @@ box b (onLog c) f =
 box b turnOff f = absurd f
 box b turnOn f = absurd f
 box b (setLevel level) f = ap (withConsole b) (set-left (b .console) level f)
+box b (setMinimum level) f = ap (withConsole b) (minimum-left (b .console) level f)
 box b (line m result numbers) f = refl
 box b (delivery m) f = ap (λ (x : State). record { log = b .log; console = b .console; board = x; trail = b .trail }) (board-left (b .board) m f)
 box b (receiver input buffer out) f = refl
@@ -246,6 +255,7 @@ lent b (onLog c) f =
 lent b turnOff f = absurd f
 lent b turnOn f = absurd f
 lent b (setLevel level) f = refl
+lent b (setMinimum level) f = refl
 lent b (line m result numbers) f = let l = line-left m result numbers f in ap₂ (λ (x y : List ℕ). x ∷ y ∷ []) (l .0) (l .1)
 lent b (delivery m) f = refl
 lent b (receiver input buffer out) f = let l = out-left input buffer out f in ap₂ (λ (x y : List ℕ). x ∷ y ∷ []) (l .0) (l .1)

@@ -14,7 +14,7 @@ use Rattle.feed.specs.Feed.{output}
 use Rattle.feed.specs.Longest.{reportMost}
 use Rattle.history.specs.Demand1.{leftBy}
 use Rattle.history.specs.Demand1.{Known as InTable}
-use Rattle.product.specs.Calls.{Box, Call, onLog, turnOff, turnOn, setLevel, line, delivery, receiver, trailNext, Answer, number, byReader, byBoard, printed, noRoom, other, withLog, called, handed}
+use Rattle.product.specs.Calls.{Box, Call, onLog, turnOff, turnOn, setLevel, setMinimum, line, delivery, receiver, trailNext, Answer, number, byReader, byBoard, printed, noRoom, other, withLog, called, handed}
 
 -- a count, or a number of the tables: -77 .. -11 of the log, 1 to 8 of the line reader, 1 to 10 of the board
 abbrev pub Known : Answer → Type 0
@@ -48,6 +48,7 @@ left b (onLog c) other = b
 left b turnOff a = b
 left b turnOn a = b
 left b (setLevel level) a = b
+left b (setMinimum level) a = b
 left b (line m result numbers) a = b
 left b (delivery m) a = b
 left b (receiver input buffer out) a = b
