@@ -10,17 +10,18 @@ use lib.Dec.{leb}
 use lib.ListN.{length, getD}
 use Rattle.slices.specs.Tests.{every}
 use Rattle.slices.proofs.Bools.{and-left, and-right, every-first, every-other}
+use Rattle.console.specs.declared.Console.{Console}
 use Rattle.record.specs.Limits.{wordMost}
 use Rattle.log.specs.View.{Marks, View}
 use Rattle.log.specs.Check.{freshLog, marksOf, viewOf}
 use Rattle.log.specs.Excess.{total}
 use Rattle.store.proofs.HoldsLaws.{used-is}
-use Rattle.history.specs.Calls.{Call, outside, box, make, place, read, seek, command, save, check, console, State, step, stateAfter}
+use Rattle.history.specs.Calls.{Call, outside, box, make, place, read, seek, command, save, minimum, check, console, Reply, State, step, stateAfter}
 use Rattle.history.specs.Past.{Past, firstHeld, held, pastStep, pastAfter, freshPast}
 use Rattle.history.specs.Demand2.{fresh, Timed, AllTimed}
 use Rattle.history.proofs.SoundLaws.{Sound, sound-step, sound-after, sound-fresh}
-use Rattle.history.proofs.Demand2.{Agrees, first-is, next-is, level-is, agree-step, agree-after, agree-fresh}
-use Rattle.moments.specs.Case.{Outcome, outcomeOf, callOf, Calls, outcome, GivesFrom, Numbers, numbersOf, Left, leftBy, Leaves, leftOf, LeavesFrom}
+use Rattle.history.proofs.Demand2.{Agrees, first-is, next-is, setting-is, agree-step, agree-after, agree-fresh}
+use Rattle.moments.specs.Case.{Outcome, outcomeOf, callOf, Calls, outcome, GivesFrom, Numbers, numbersOf, Left, leftBy, Leaves, leftOf, LeavesFrom, Change, stepOf, seenOf, changesBy, Changes}
 use Rattle.moments.proofs.LyingLaws.{Lying, lyingIn, lyingAfter, lies-after}
 
 -- ---- times of 64 bits, by a test
@@ -34,6 +35,7 @@ isTimed (read i lent) = true
 isTimed (seek i offset whence) = true
 isTimed (command a lent) = true
 isTimed (save number lent) = true
+isTimed (minimum wanted) = true
 isTimed check = true
 isTimed (console level setting) = true
 
@@ -47,6 +49,7 @@ timed (read i lent) e = tt
 timed (seek i offset whence) e = tt
 timed (command a lent) e = tt
 timed (save number lent) e = tt
+timed (minimum wanted) e = tt
 timed check e = tt
 timed (console level setting) e = tt
 
@@ -60,14 +63,14 @@ unfoldable pub pastOutcome : Past → List Call → Outcome
 pastOutcome p [] =
     record {
       seen = [];
-      after = record { used = total (held p .records); first = firstHeld p; next = length (p .all); level = p .marks .level };
+      after = record { used = total (held p .records); first = firstHeld p; next = length (p .all); level = p .marks .setting .level };
     }
 pastOutcome p (c ∷ cs) =
     let x = pastStep p c in let o = pastOutcome (x .past) cs in record { seen = x .reply ∷ o .seen; after = o .after }
 
 agree-outcome : (cs : List Call) (s : State) (p : Past) → Agrees s p → Sound p → AllTimed cs → outcomeOf s cs ≡ pastOutcome p cs
 unfolding pastOutcome
-agree-outcome [] s p a ok t = rw (used-is (s .log) (s .buffer) (held p .records) (a .holds), first-is s p a ok, next-is s p a ok, level-is s p a ok)
+agree-outcome [] s p a ok t = rw (used-is (s .log) (s .buffer) (held p .records) (a .holds), first-is s p a ok, next-is s p a ok, setting-is s p a ok)
 agree-outcome (c ∷ cs) s p a ok t =
     let n = agree-step s p c a ok (t .0) in
     rw (n .0, agree-outcome cs (step s c .state) (pastStep p c .past) (n .1) (sound-step p c ok (t .0)) (t .1))
@@ -91,6 +94,34 @@ on-fresh c h buffer l =
     let then = all-timed now (and-right (every isTimed before) _ times) in
     agree-outcome now _ _ (agree-after before (fresh buffer) (freshPast 1024) a ok t) (sound-after before (freshPast 1024) ok t) then
     ∙ ap (λ (x : Bool × Outcome). x .1) h
+
+-- ---- the console setting after each call
+
+unfoldable pub pastChanges : Past → List Call → List (Reply × Console)
+pastChanges p [] = []
+pastChanges p (c ∷ cs) = let x = pastStep p c in (x .reply, x .past .marks .setting) ∷ pastChanges (x .past) cs
+
+agree-changes : (cs : List Call) (s : State) (p : Past) → Agrees s p → Sound p → AllTimed cs → changesBy s cs ≡ pastChanges p cs
+unfolding pastChanges
+agree-changes [] s p a ok t = refl
+agree-changes (c ∷ cs) s p a ok t =
+    let n = agree-step s p c a ok (t .0) in
+    let ok = sound-step p c ok (t .0) in
+    rw (n .0, setting-is _ _ (n .1) ok, agree-changes cs (step s c .state) (pastStep p c .past) (n .1) ok (t .1))
+
+abbrev called : List Change → List Call
+called cs = map (λ (c : Change). callOf (stepOf c)) cs
+
+-- whether the times are of 64 bits, and what the history says
+unfoldable pub changed : List Change → Bool × List (Reply × Console)
+changed cs = (every isTimed (called cs), pastChanges (freshPast 1024) (called cs))
+
+pub on-changes : (cs : List Change) → changed cs ≡ (true, map seenOf cs) → Changes cs
+unfolding changed
+on-changes cs h held l =
+    let a : Agrees (fresh held) (freshPast 1024) = rw l at (agree-fresh held (omega arith) (omega arith)) in
+    let times : every isTimed (called cs) ≡ true = ap (λ (x : Bool × List (Reply × Console)). x .0) h in
+    agree-changes (called cs) _ _ a (sound-fresh 1024 (omega arith)) (all-timed (called cs) times) ∙ ap (λ (x : Bool × List (Reply × Console)). x .1) h
 
 -- ---- a fresh log over any 1,024 bytes, by computing over bytes that are named
 
@@ -120,7 +151,9 @@ pastNumbers p start =
       clear = p .marks .clear;
       position = p .marks .position;
       offset = p .marks .offset;
-      level = p .marks .level;
+      level = p .marks .setting .level;
+      minimum = p .marks .setting .minimum;
+      saved = p .marks .setting .saved;
     }
 
 module _ (s : State) (p : Past) (a : Agrees s p) (ok : Sound p) where
@@ -134,7 +167,7 @@ module _ (s : State) (p : Past) (a : Agrees s p) (ok : Sound p) where
       let c : s .log .clear .0 ≡ p .marks .clear = ap (λ (m : Marks). m .clear) marks-are in
       let n : s .log .position .0 ≡ p .marks .position = ap (λ (m : Marks). m .position) marks-are in
       let o : s .log .offset ≡ p .marks .offset = ap (λ (m : Marks). m .offset) marks-are in
-      rw (used-is (s .log) (s .buffer) (held p .records) (a .holds), first-is s p a ok, next-is s p a ok, c, n, o, level-is s p a ok)
+      rw (used-is (s .log) (s .buffer) (held p .records) (a .holds), first-is s p a ok, next-is s p a ok, c, n, o, setting-is s p a ok)
 
 unfoldable pub pastLeft : Past → Lying → List Call → Left
 pastLeft p y cs =

@@ -2,6 +2,7 @@
 use mathlib.Core.Path.{refl}
 use Rattle.number.specs.Decimal.{decimal, value, plainDecimal}
 use Rattle.escape.specs.Escape.{wellEscaped, unescape}
+use Rattle.console.specs.Console.{savedFits, settingFits, savedBy, turnedOff, restored, turnedOn, raised, levelSet, setTo, minimumSet, withMinimum}
 use Rattle.record.specs.Dictionary.{isDictionary}
 use Rattle.record.specs.Record.{cost}
 use Rattle.record.specs.Heading.{headingOf, headingBytes, headingCost, headingFits, recordHeading, recordBytes}
@@ -12,11 +13,13 @@ use Rattle.log.specs.Check.{numbersFit, dictionaryBytes, recordFits, after, rec
 use Rattle.log.specs.Excess.{excess}
 use Rattle.store.specs.Write.{droppedBy, keptBy, writtenLog, writtenBuffer}
 use Rattle.front.specs.Prefix.{hasPrefix, prefixIn, afterPrefix, notKernel, withoutNewline}
+use Rattle.savedtrail.specs.Save.{saveBy, saving}
 use Rattle.writes.specs.Write.{outsideRecord, boxRecord, outsideRuling, boxRuling, writeBy, outsideWrite, boxWrite}
 use Rattle.kmsg.specs.Read.{lineAt, readRuling, readRefused, readDone, readBy, seekRuling, seekPlace, seekBy, seeking}
 use Rattle.kmsg.specs.Read.{reading as kmsgReading}
 use Rattle.forms.specs.Copy.{onward}
 use Rattle.syslog.specs.Command.{fromNumber, fromOffset, unreadRecords, unread, copied, moved, sinceClear, lastOf, commandRuling, marksAfter, given, count, commandBy, commanding}
+use Rattle.syslog.specs.Minimum.{minimumRuling, minimumBy, settingMinimum}
 use Rattle.history.specs.Calls.{step, stateAfter}
 use Rattle.history.specs.Past.{firstHeld, held, pastWrite, pastStep, pastAfter, freshPast}
 use Rattle.header.specs.Header.{header, fields, field, lacksHeader, lacksNumber}
@@ -29,13 +32,14 @@ use Rattle.moments.specs.Refusals.{refusals, readers-refused, writes-ref
 use Rattle.moments.specs.Pages.{pages, prefixes, from-box, seeks, goes-on, mark-passed, mark-passed-by-4, none-of-dropped, console-8, console-6, console-7, overtaken-end}
 use Rattle.moments.specs.Bytes.{stored, in-front, with-dictionary, only-marks, text-over, start-over, heading-over, dictionary-over, just-full, full-goes-on, position-stays}
 use Rattle.moments.specs.Pairs.{together, eperm-before-einval, efault-between, eperm-alone}
+use Rattle.moments.specs.Console.{anthem, nothing-saved, twice, set-between, under-five, below-it, minimum-refused, without-privilege, levels}
 use Rattle.moments.specs.Claim.{Claim}
-use Rattle.moments.proofs.CaseLaws.{isTimed, pastOutcome, sight, on-fresh, listed, pastNumbers, pastLeft, sightLeft, on-any}
+use Rattle.moments.proofs.CaseLaws.{isTimed, pastOutcome, sight, on-fresh, pastChanges, changed, on-changes, listed, pastNumbers, pastLeft, sightLeft, on-any}
 use Rattle.moments.proofs.LyingLaws.{laid, lyingWrite, lyingStep, lyingAfter}
 
 -- what the rows are computed by, named once for all tables; each table is a declaration, since the prover counts its steps by declaration
 unfoldable the-definitions : Unit {0}
-unfolding decimal value plainDecimal wellEscaped unescape isDictionary cost headingOf headingBytes headingCost headingFits recordHeading recordBytes unrolled wrapped ringPut kmsgEntries kmsgHeader kmsgLine syslogForm syslogForms syslogLength nextOf recordAt numbersFit dictionaryBytes recordFits after recordOf skipped walked recordsIn offsetFits finished checked marksOf viewOf withMarks ruled excess droppedBy keptBy writtenLog writtenBuffer hasPrefix prefixIn afterPrefix notKernel withoutNewline outsideRecord boxRecord outsideRuling boxRuling writeBy outsideWrite boxWrite lineAt readRuling readRefused readDone readBy kmsgReading seekRuling seekPlace seekBy seeking fromNumber fromOffset unreadRecords unread copied onward moved sinceClear lastOf commandRuling marksAfter given count commandBy commanding step stateAfter firstHeld held pastWrite pastStep pastAfter freshPast header fields field body lines text continuations dictionary isLong isUnended lacksHeader lacksNumber hasWrongByte hasWrongEntry isBulky refusal reading lineRefusal readLine fresh lacksRoom boardRefusal show deliver isTimed pastOutcome sight listed pastNumbers pastLeft sightLeft laid lyingWrite lyingStep lyingAfter
+unfolding savedFits settingFits savedBy turnedOff restored turnedOn raised levelSet setTo minimumSet withMinimum minimumRuling minimumBy settingMinimum saveBy saving decimal value plainDecimal wellEscaped unescape isDictionary cost headingOf headingBytes headingCost headingFits recordHeading recordBytes unrolled wrapped ringPut kmsgEntries kmsgHeader kmsgLine syslogForm syslogForms syslogLength nextOf recordAt numbersFit dictionaryBytes recordFits after recordOf skipped walked recordsIn offsetFits finished checked marksOf viewOf withMarks ruled excess droppedBy keptBy writtenLog writtenBuffer hasPrefix prefixIn afterPrefix notKernel withoutNewline outsideRecord boxRecord outsideRuling boxRuling writeBy outsideWrite boxWrite lineAt readRuling readRefused readDone readBy kmsgReading seekRuling seekPlace seekBy seeking fromNumber fromOffset unreadRecords unread copied onward moved sinceClear lastOf commandRuling marksAfter given count commandBy commanding step stateAfter firstHeld held pastWrite pastStep pastAfter freshPast header fields field body lines text continuations dictionary isLong isUnended lacksHeader lacksNumber hasWrongByte hasWrongEntry isBulky refusal reading lineRefusal readLine fresh lacksRoom boardRefusal show deliver isTimed pastOutcome sight pastChanges changed listed pastNumbers pastLeft sightLeft laid lyingWrite lyingStep lyingAfter
 the-definitions = tt
 
 -- T1 to T16
@@ -154,6 +158,27 @@ pairs-agree =
     and refl
     and done
 
+levels-agree : AllAgree levels
+unfolding the-definitions
+levels-agree =
+    on-changes anthem refl
+    and on-changes nothing-saved refl
+    and on-changes twice refl
+    and on-changes set-between refl
+    and on-changes under-five refl
+    and on-changes below-it refl
+    and on-changes minimum-refused refl
+    and on-changes without-privilege refl
+    and refl
+    and refl
+    and refl
+    and refl
+    and refl
+    and refl
+    and refl
+    and refl
+    and done
+
 pub all-agree : Claim
 all-agree =
     record {
@@ -162,4 +187,5 @@ all-agree =
       others = pages-agree;
       bytes = stored-agree;
       pairs = pairs-agree;
+      console = levels-agree;
     }

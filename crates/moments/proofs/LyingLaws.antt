@@ -24,7 +24,8 @@ use Rattle.store.proofs.HoldsLaws.{grown, used-is, holds-written}
 use Rattle.writes.specs.Write.{outsideRecord, boxRecord, outsideRuling, boxRuling, writeBy, outsideWrite, boxWrite}
 use Rattle.kmsg.specs.Read.{reading, seeking}
 use Rattle.syslog.specs.Command.{commanding}
-use Rattle.history.specs.Calls.{Call, outside, box, make, place, read, seek, command, save, check, console, State, Stepped, afterWrite, ifThere, step, stateAfter}
+use Rattle.syslog.specs.Minimum.{settingMinimum}
+use Rattle.history.specs.Calls.{Call, outside, box, make, place, read, seek, command, save, minimum, check, console, State, Stepped, afterWrite, ifThere, step, stateAfter}
 use Rattle.history.specs.Past.{Past, held, nextNumber, pastStep}
 use Rattle.history.specs.Demand2.{Timed, AllTimed}
 use Rattle.history.proofs.SoundLaws.{Sound, Ready, ready-cost, outside-ready, box-ready, sound-step}
@@ -95,6 +96,7 @@ lyingStep p y (read i lent) = y
 lyingStep p y (seek i offset whence) = y
 lyingStep p y (command a lent) = y
 lyingStep p y (save number lent) = y
+lyingStep p y (minimum wanted) = y
 lyingStep p y check = y
 lyingStep p y (console level setting) = y
 
@@ -156,7 +158,7 @@ lies-either true x y e = e
 lies-either false x y e = refl
 
 pub lies-step : (s : State) (p : Past) (c : Call) → Agrees s p → Sound p → Timed c → lyingIn (step s c .state) ≡ lyingStep p (lyingIn s) c
-unfolding step lyingStep outsideWrite boxWrite commanding withMarks
+unfolding step lyingStep outsideWrite boxWrite commanding settingMinimum withMarks
 lies-step s p (outside time bytes) a ok t =
     rw (ruled-is s p a ok (λ v. outsideRuling v bytes), ap (λ (n : ℕ). outsideRecord n time bytes) (next-is s p a ok))
     (lies-write s p a ok (outsideRecord (nextNumber p) time bytes) (length bytes) (outsideRuling (held p) bytes) (outside-ready p ok time bytes t))
@@ -173,6 +175,7 @@ lies-step s p (read i lent) a ok t = lies-either (ltb i (length (s .readers))) _
 lies-step s p (seek i offset whence) a ok t = lies-either (ltb i (length (s .readers))) _ _ refl
 lies-step s p (command x lent) a ok t = refl
 lies-step s p (save number lent) a ok t = refl
+lies-step s p (minimum wanted) a ok t = refl
 lies-step s p check a ok t = refl
 lies-step s p (console level setting) a ok t = refl
 

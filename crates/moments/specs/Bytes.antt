@@ -5,7 +5,8 @@ use mathlib.Core.List.{List, [], _∷_, _++_}
 use lib.IntN.{pos}
 use lib.ListN.{drop, replicate}
 use Rattle.slices.specs.Quoted.{quoted}
-use Rattle.history.specs.Calls.{outside, box, make, read, seek, wrote, made, gave, sought, told}
+use Rattle.console.specs.declared.Saved.the-variants.{Nothing, Level}
+use Rattle.history.specs.Calls.{outside, box, make, read, seek, minimum, wrote, made, gave, sought, told}
 use Rattle.moments.specs.Case.{Step, _gives_, Leaves, Case, leaves, minus, blank, asked}
 
 -- 0x0102030405060708 and 0x1112131415161718 ns: no two bytes alike
@@ -27,7 +28,7 @@ abbrev pub in-front : Leaves
 in-front =
     record {
       steps = outside time₁ (quoted "<134>GOAL home 1") gives wrote (pos 16) 0 ∷ [];
-      numbers = record { start = 0; used = 35; first = 0; next = 1; clear = 0; position = 0; offset = 0; level = 7 };
+      numbers = record { start = 0; used = 35; first = 0; next = 1; clear = 0; position = 0; offset = 0; level = 7; minimum = 1; saved = Nothing };
       buffer = goal;
     }
 
@@ -36,13 +37,14 @@ abbrev pub with-dictionary : Leaves
 with-dictionary =
     record {
       steps = box 255 7 time₂ (quoted "bridge up") (quoted "k=1\0l=") gives wrote (pos 15) 0 ∷ [];
-      numbers = record { start = 0; used = 39; first = 0; next = 1; clear = 0; position = 0; offset = 0; level = 7 };
+      numbers = record { start = 0; used = 39; first = 0; next = 1; clear = 0; position = 0; offset = 0; level = 7; minimum = 1; saved = Nothing };
       buffer = λ held.
           (24 ∷ 23 ∷ 22 ∷ 21 ∷ 20 ∷ 19 ∷ 18 ∷ 17 ∷ [])
           ++ (blank 8 ++ ((9 ∷ 0 ∷ 6 ∷ 0 ∷ 255 ∷ 7 ∷ 45 ∷ 0 ∷ []) ++ (quoted "bridge upk=1\0l=" ++ drop 39 held)));
     }
 
--- no other call touches a byte: 2 moves its position alone, 5 the mark, 8 the level, seek and read the reader, and a refused write nothing
+-- no other call touches a byte: 2 moves its position alone, 5 the mark, 6 the level and the save, 8 the level, the box's call the minimum, seek and read
+-- the reader, and a refused write nothing
 abbrev pub only-marks : Leaves
 only-marks =
     record {
@@ -50,12 +52,14 @@ only-marks =
           ∷ make gives made 0
           ∷ asked 2 5 (blank 5) gives told (pos 5) (quoted "<134>")
           ∷ asked 5 0 [] gives told (pos 0) []
+          ∷ asked 6 0 [] gives told (pos 0) []
           ∷ asked 8 3 [] gives told (pos 0) []
+          ∷ minimum (pos 2) gives told (pos 0) []
           ∷ outside time₂ (replicate 961 97) gives wrote (minus 22) 0
           ∷ seek 0 (pos 0) (pos 2) gives sought (pos 0) 1
           ∷ read 0 [] gives gave (minus 11) 0 1 []
           ∷ [];
-      numbers = record { start = 0; used = 35; first = 0; next = 1; clear = 1; position = 0; offset = 5; level = 3 };
+      numbers = record { start = 0; used = 35; first = 0; next = 1; clear = 1; position = 0; offset = 5; level = 3; minimum = 2; saved = Level 7 };
       buffer = goal;
     }
 
@@ -73,7 +77,7 @@ abbrev pub text-over : Leaves
 text-over =
     record {
       steps = over-the-end;
-      numbers = record { start = 984; used = 44; first = 1; next = 2; clear = 0; position = 0; offset = 0; level = 7 };
+      numbers = record { start = 984; used = 44; first = 1; next = 2; clear = 0; position = 0; offset = 0; level = 7; minimum = 1; saved = Nothing };
       buffer = λ held.
           quoted "y 0!"
           ++ ((4 ∷ 3 ∷ 2 ∷ 1 ∷ [])
@@ -89,7 +93,7 @@ abbrev pub start-over : Leaves
 start-over =
     record {
       steps = over-the-end ++ (outside 0 (replicate 960 98) gives wrote (pos 960) 1 ∷ []);
-      numbers = record { start = 4; used = 984; first = 2; next = 3; clear = 0; position = 0; offset = 0; level = 7 };
+      numbers = record { start = 4; used = 984; first = 2; next = 3; clear = 0; position = 0; offset = 0; level = 7; minimum = 1; saved = Nothing };
       buffer = λ held.
           quoted "y 0!"
           ++ (blank 8
@@ -108,7 +112,7 @@ heading-over =
           ∷ outside 256 (quoted "Kick-off 0-0.") gives wrote (pos 13) 0
           ∷ outside time₁ (quoted "<134>x") gives wrote (pos 6) 1
           ∷ [];
-      numbers = record { start = 984; used = 62; first = 1; next = 3; clear = 0; position = 0; offset = 0; level = 7 };
+      numbers = record { start = 984; used = 62; first = 1; next = 3; clear = 0; position = 0; offset = 0; level = 7; minimum = 1; saved = Nothing };
       buffer = λ held.
           (5 ∷ 4 ∷ 3 ∷ 2 ∷ 1 ∷ [])
           ++ ((2 ∷ blank 7)
@@ -127,7 +131,7 @@ dictionary-over =
       steps = outside time₁ (replicate 960 97) gives wrote (pos 960) 0
           ∷ box 3 6 time₂ (quoted "bridge 12 up") (quoted "k=1\0l=") gives wrote (pos 18) 1
           ∷ [];
-      numbers = record { start = 984; used = 42; first = 1; next = 2; clear = 0; position = 0; offset = 0; level = 7 };
+      numbers = record { start = 984; used = 42; first = 1; next = 2; clear = 0; position = 0; offset = 0; level = 7; minimum = 1; saved = Nothing };
       buffer = λ held.
           quoted "l="
           ++ ((6 ∷ 5 ∷ 4 ∷ 3 ∷ 2 ∷ 1 ∷ [])
@@ -149,7 +153,7 @@ abbrev pub just-full : Leaves
 just-full =
     record {
       steps = to-the-end;
-      numbers = record { start = 0; used = 1024; first = 0; next = 2; clear = 0; position = 0; offset = 0; level = 7 };
+      numbers = record { start = 0; used = 1024; first = 0; next = 2; clear = 0; position = 0; offset = 0; level = 7; minimum = 1; saved = Nothing };
       buffer = λ held.
           (8 ∷ 7 ∷ 6 ∷ 5 ∷ 4 ∷ 3 ∷ 2 ∷ 1 ∷ [])
           ++ (blank 8
@@ -164,7 +168,7 @@ abbrev pub full-goes-on : Leaves
 full-goes-on =
     record {
       steps = to-the-end ++ (outside 0 [] gives wrote (pos 0) 1 ∷ []);
-      numbers = record { start = 984; used = 64; first = 1; next = 3; clear = 0; position = 0; offset = 0; level = 7 };
+      numbers = record { start = 984; used = 64; first = 1; next = 3; clear = 0; position = 0; offset = 0; level = 7; minimum = 1; saved = Nothing };
       buffer = λ held.
           blank 8
           ++ ((2 ∷ blank 7)
@@ -185,7 +189,7 @@ position-stays =
           ∷ outside 0 (quoted "GOAL home 1-0 now") gives wrote (pos 17) 1
           ∷ asked 2 0 [] gives told (pos 0) []
           ∷ [];
-      numbers = record { start = 984; used = 41; first = 1; next = 2; clear = 0; position = 0; offset = 5; level = 7 };
+      numbers = record { start = 984; used = 41; first = 1; next = 2; clear = 0; position = 0; offset = 5; level = 7; minimum = 1; saved = Nothing };
       buffer = λ held.
           quoted "w"
           ++ (blank 7

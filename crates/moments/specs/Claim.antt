@@ -5,6 +5,7 @@ use Rattle.moments.specs.Refusals.{refusals}
 use Rattle.moments.specs.Pages.{pages}
 use Rattle.moments.specs.Bytes.{stored}
 use Rattle.moments.specs.Pairs.{together}
+use Rattle.moments.specs.Console.{levels}
 
 pub record Claim : Type 0 where
   -- T1 to T16
@@ -16,3 +17,5 @@ pub record Claim : Type 0 where
   pub bytes : AllAgree stored
   -- two refusals at once
   pub pairs : AllAgree together
+  -- the console level over off and on, and the minimum (document 02, ticket 4)
+  pub console : AllAgree levels

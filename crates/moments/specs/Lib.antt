@@ -4,4 +4,5 @@ pub mod Refusals
 pub mod Pages
 pub mod Bytes
 pub mod Pairs
+pub mod Console
 pub mod Claim

@@ -174,7 +174,7 @@ console-8 =
       after = record { used = 0; first = 0; next = 0; level = 4 };
     }
 
--- 6 sets it to 1
+-- 6 sets it to the minimum, 1 (003 and document 02, ticket 4)
 abbrev pub console-6 : Calls
 console-6 =
     record {
@@ -184,14 +184,14 @@ console-6 =
       after = record { used = 0; first = 0; next = 0; level = 1 };
     }
 
--- 7 sets it to 7
+-- 7 restores it
 abbrev pub console-7 : Calls
 console-7 =
     record {
       before = new;
       earlier = callsOf console-6;
       steps = asked 7 0 [] gives told (pos 0) [] ∷ [];
-      after = record { used = 0; first = 0; next = 0; level = 7 };
+      after = record { used = 0; first = 0; next = 0; level = 4 };
     }
 
 -- after T11 a new reader is at 1, and END is 43

@@ -7,6 +7,7 @@ use lib.IntN.{pos}
 use lib.ListN.{replicate}
 use lib.ListN.{set as setAt}
 use Rattle.slices.specs.Quoted.{quoted}
+use Rattle.console.specs.declared.Saved.the-variants.{Nothing}
 use Rattle.log.specs.declared.Verdict.the-variants.{Fine, Numbers, Heading}
 use Rattle.history.specs.Calls.{outside, box, make, place, read, seek, command, check, State, wrote, made, set, gave, sought, told, verdict, nobody}
 use Rattle.board.specs.Board.{fresh, emptySlot, state}
@@ -27,7 +28,7 @@ byHand used first next level =
         clear = record { 0 = 0 };
         position = record { 0 = first };
         offset = 0;
-        console = record { level = level };
+        console = record { level = level; minimum = 1; saved = Nothing };
       };
       buffer = blank 1024;
       readers = 0 ∷ [];
