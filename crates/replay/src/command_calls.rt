@@ -1,4 +1,5 @@
-// The script's syslog(2) commands. The log's buffer is lent to them as one that none of them can change.
+// The script's syslog(2) commands, and the box's call that sets the minimum console level. The log's buffer is lent to them as one that none of them can
+// change.
 use crate::state;
 use crate::state::Called;
 use crate::state::LogCalled;
@@ -43,6 +44,22 @@ fn on_log(log: Log, words: Words, ring: &[u8], space: &mut [u8]) -> LogCalled {
     let lent = lent::first(space, words.lent);
     let commanded = syslog::command(log, ring, asked, lent);
     done(asked.command, commanded)
+}
+
+// The minimum: nothing is lent.
+fn minimum_set(log: Log, words: Words, ring: &[u8]) -> LogCalled {
+    let commanded = syslog::set_minimum(log, ring, words::signed_of(words.w1));
+    let log = commanded.log;
+    let answer = commanded.answer;
+    LogCalled {
+        log,
+        told: state::answered(answer),
+    }
+}
+
+pub fn set_minimum(state: State, words: Words, ring: &[u8]) -> Called {
+    let log = state.log;
+    state::with_log(state, minimum_set(log, words, ring))
 }
 
 pub fn call(state: State, words: Words, ring: &[u8], space: &mut [u8]) -> Called {

@@ -46,6 +46,7 @@ fn on_log(
         b'n' => log_calls::set_number(state, words),
         b'w' => write_calls::call(state, words, bytes, ring, space),
         b'r' => reader_calls::call(state, words, ring, space),
+        b'm' => command_calls::set_minimum(state, words, ring),
         b's' => trail_calls::save(state, words, ring, image, space),
         _ => command_calls::call(state, words, ring, space),
     }

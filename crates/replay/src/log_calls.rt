@@ -3,6 +3,7 @@ use crate::state;
 use crate::state::Called;
 use crate::state::State;
 use console::Console;
+use console::Saved;
 use log::Log;
 use log::Verdict;
 use record::Seq;
@@ -28,12 +29,36 @@ pub fn fresh(before: State, words: Words, buffer: &mut Buffer) -> Called {
     state::left(state, Told::form(0))
 }
 
-// The log with one of its numbers set by hand: the row says which.
+fn setting(level: u64, minimum: u64, saved: Saved) -> Console {
+    Console {
+        level,
+        minimum,
+        saved,
+    }
+}
+
+// The console setting with one of its numbers set by hand, or with no level saved: the row says which.
+fn with_setting(console: Console, row: u8, n: u64) -> Console {
+    let level = console.level;
+    let minimum = console.minimum;
+    let saved = console.saved;
+    let by_hand = Saved::Level(n);
+    let nothing = Saved::Nothing;
+    match row {
+        b'7' => setting(n, minimum, saved),
+        b'8' => setting(level, n, saved),
+        b'9' => setting(level, minimum, by_hand),
+        _ => setting(level, minimum, nothing),
+    }
+}
+
+// The log with one of its numbers set by hand, likewise.
 fn with_number(log: Log, row: u8, n: u64) -> Log {
     let mut after = log;
     let number = Seq(n);
     let place = Place(n as usize);
-    let console = Console { level: n };
+    let before = log.console;
+    let console = with_setting(before, row, n);
     match row {
         b'0' => after.start = place,
         b'1' => after.used = n as usize,
@@ -66,8 +91,20 @@ fn check(log: Log, ring: &[u8]) -> Told {
     verdict_told(log::check(log, ring))
 }
 
+// The saved level as the last number, or that there is none.
+fn saved_told(told: Told, saved: Saved) -> Told {
+    let mut after = told;
+    match saved {
+        Saved::Level(level) => after.n9 = level,
+        Saved::Nothing => after.meant = 1,
+    }
+    after
+}
+
 // The log's numbers.
 fn numbers(log: Log) -> Told {
+    let console = log.console;
+    let saved = console.saved;
     let mut told = Told::form(0);
     told.n0 = log.start.0 as u64;
     told.n1 = log.used as u64;
@@ -76,8 +113,9 @@ fn numbers(log: Log) -> Told {
     told.n4 = log.clear.0;
     told.n5 = log.position.0;
     told.n6 = log.offset as u64;
-    told.n7 = log.console.level;
-    told
+    told.n7 = console.level;
+    told.n8 = console.minimum;
+    saved_told(told, saved)
 }
 
 // Bytes of the log's buffer, as far as it reaches.

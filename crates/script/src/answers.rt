@@ -22,6 +22,8 @@ pub struct Told {
     pub n5: u64,
     pub n6: u64,
     pub n7: u64,
+    pub n8: u64,
+    pub n9: u64,
     pub from: usize,
     pub to: usize,
     pub more: usize,
@@ -45,6 +47,8 @@ impl Told {
             n5: 0,
             n6: 0,
             n7: 0,
+            n8: 0,
+            n9: 0,
             from: 0,
             to: 0,
             more: 0,
@@ -117,7 +121,9 @@ fn number_of(told: Told, k: usize) -> u64 {
         4 => told.n4,
         5 => told.n5,
         6 => told.n6,
-        _ => told.n7,
+        7 => told.n7,
+        8 => told.n8,
+        _ => told.n9,
     }
 }
 

@@ -2,7 +2,7 @@
 //
 //   FAMILY ROW " " the line's words "=" the forms of its answer, parted by "|"
 //
-// FAMILY and ROW are a letter and a digit, by which a family's module finds its call. A word is a name that has to stand there, or
+// FAMILY is a letter, ROW a digit, or x behind 9, by which a family's module finds its call. A word is a name that has to stand there, or
 //
 //   #N   a number of at most N, or any number where no N stands
 //   @N   such a number, which is the length of the buffer that the line lends
@@ -17,9 +17,9 @@ use crate::words::Bytes;
 use crate::words::Word;
 use crate::words::Words;
 
-pub const ROWS: [u8; 881] = *b"f0 log #70000 #255=log\n\
+pub const ROWS: [u8; 1007] = *b"f0 log #70000 #255=log\n\
     l0 check=fine|numbers|heading n\n\
-    l1 numbers=n n n n n n n n\n\
+    l1 numbers=n n n n n n n n n n|n n n n n n n n n -\n\
     l2 peek # #=h\n\
     l3 poke # $=poked\n\
     n0 number start #=set\n\
@@ -30,6 +30,9 @@ pub const ROWS: [u8; 881] = *b"f0 log #70000 #255=log\n\
     n5 number position #=set\n\
     n6 number offset #=set\n\
     n7 number console #=set\n\
+    n8 number minimum #=set\n\
+    n9 number saved #=set\n\
+    nx number saved -=set\n\
     w0 outside # $=i n\n\
     w1 box ~ ~ # $ $=i n\n\
     r0 reader=reader n\n\
@@ -38,6 +41,7 @@ pub const ROWS: [u8; 881] = *b"f0 log #70000 #255=log\n\
     r3 read # @5000=i n h\n\
     r4 seek # ~9223372036854775807 ~2147483647=i\n\
     c0 command ~2147483647 ~2147483647 #1 #1 @300000=i h\n\
+    m0 minimum ~9223372036854775807=i\n\
     g0 board #255=board\n\
     b0 deliver $=n\n\
     b1 slot #23=nothing n|n n h\n\
