@@ -42,7 +42,7 @@ hand() {
     held "$1"
 }
 
-# script SEED LINES [wide|trail]
+# script SEED LINES [wide|trail|console], or script all console|levels
 script() {
     "$second" script "$@" >"$room/in"
     "$second" answer <"$room/in" >"$room/want"
@@ -78,6 +78,7 @@ hand 'a long line without its newline'
 
 # ---- nothing is there before it is made
 case_of 'before a log' 'numbers\ncheck\nreader\nnumber start 0\npoke 0 00\npeek 0 1\noutside 0 -\nbox 1 1 0 - -\nat 0 0\nwhere 0\nread 0 0\nseek 0 0 0\ncommand 10 0 1 0 0\n' '?\n?\n?\n?\n?\n?\n?\n?\n?\n?\n?\n?\n?\n'
+case_of 'before a log, levels' 'minimum 1\nminimum 0\nnumber minimum 1\nnumber saved 1\nnumber saved -\n' '?\n?\n?\n?\n?\n'
 case_of 'before a board' 'slot 16\ndeliver -\nline -\nboard 7\nslot 16\nslot 15\nslot 24\n' '?\n?\n3\nboard\nnothing 0\n?\n?\n'
 case_of 'before a disk' 'cut 1\npatch 0 00\ntrail\nnext 960\nsave 1 512\ndisk 512 0\ncut 1\nnext 960\nsave 1 512\n' '?\n?\n?\n?\n?\ndisk\n?\n?\n?\n'
 case_of 'a reader that is gone' 'disk 512 0\ntrail\nnext 960\ncut 1\nnext 960\ndisk 0 256\nnext 960\ndisk 0 0\nnext 960\ntrail\nnext 959\nnext 960\nnext 960\n' 'disk\ntrail\nstop check 0\n?\nstop check 0\n?\nstop check 0\ndisk\n?\ntrail\nroom\nend\nend\n'
@@ -89,6 +90,11 @@ case_of 'ranges of patches and results' 'disk 90000 255\npatch 0 0\npatch 90000 
 printf 'log 1024 7\nsave 7 512\nlog 1023 7\nsave 8 512\ndisk 513 0\ncut 0\ncut 18446744073709551615\ntrail\nlog 1024 7\nsave 8 511\nnext 960\ncut 1\nnext 960\ntrail\nnext 960\n' >"$room/in"
 { printf 'log\n512 000000000000000007000000'; many 992 0; printf '23c94bd8\nlog\n-77 -\ndisk\ncut 513\ncut 513\ntrail\nlog\n-14 -\nend\ncut 513\n?\ntrail\nend\n'; } >"$room/want"
 hand 'an image, a file and a reader when a log comes'
+
+# ---- console off and on
+case_of 'off and on' 'log 1024 0\nnumbers\ncommand 8 4 1 0 0\ncommand 6 0 1 0 0\nnumbers\ncommand 7 0 1 0 0\nnumbers\n' 'log\n0 0 0 0 0 0 0 7 1 -\n0 -\n0 -\n0 0 0 0 0 0 0 1 1 4\n0 -\n0 0 0 0 0 0 0 4 1 -\n'
+case_of 'ranges of the minimum' 'log 1024 0\nminimum 8\nminimum 0\nminimum 9\nminimum -1\nminimum 9223372036854775807\nminimum -9223372036854775808\nminimum 9223372036854775808\nminimum -9223372036854775809\nminimum\nminimum 5 5\nminimum -\nnumbers\n' 'log\n0\n-22\n-22\n-22\n-22\n-22\n?\n?\n?\n?\n?\n0 0 0 0 0 0 0 7 8 -\n'
+case_of 'levels by hand' 'log 1024 0\nnumber minimum 18446744073709551615\nnumber saved 9\nnumbers\nnumber minimum -\nnumber minimum 18446744073709551616\nnumber saved -1\nminimum 5\nnumber minimum 8\ncheck\nnumber saved -\ncheck\nnumbers\n' 'log\nset\nset\n0 0 0 0 0 0 0 7 18446744073709551615 9\n?\n?\n?\n-77\nset\nnumbers\nset\nfine\n0 0 0 0 0 0 0 7 8 -\n'
 
 # ---- readers
 { echo 'log 1024 0'; for i in $(seq 17); do echo reader; done; printf 'where 15\nwhere 16\nlog 1024 0\nwhere 0\n'; } >"$room/in"
@@ -113,6 +119,11 @@ script 104 4000
 script 105 4000 wide
 script 106 4000 trail
 script 107 4000 trail
+script 108 4000 console
+script 109 4000 console
+# every run of up to five of eight console calls, and each of those calls on every log with levels of 0 to 9
+script all console
+script all levels
 
 # ---- input that comes in pieces
 printf 'yes\nno\n' >"$room/want"

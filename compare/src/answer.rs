@@ -81,6 +81,10 @@ impl Machine {
                 self.readers.clear();
                 Some("log".into())
             }
+            ["number", "saved", "-"] => {
+                self.log.as_mut()?.forget_saved();
+                Some("set".into())
+            }
             ["number", name, value] => {
                 let value = num(value)?;
                 let log = self.log.as_mut()?;
@@ -93,9 +97,18 @@ impl Machine {
             }
             ["numbers"] => {
                 let n = self.log.as_ref()?.numbers();
+                let saved = n.saved.map_or("-".into(), |level| level.to_string());
                 Some(format!(
-                    "{} {} {} {} {} {} {} {}",
-                    n.start, n.used, n.first, n.next, n.clear, n.position, n.offset, n.console
+                    "{} {} {} {} {} {} {} {} {} {saved}",
+                    n.start,
+                    n.used,
+                    n.first,
+                    n.next,
+                    n.clear,
+                    n.position,
+                    n.offset,
+                    n.console,
+                    n.minimum
                 ))
             }
             ["peek", place, length] => {
@@ -170,6 +183,14 @@ impl Machine {
                 let changed = !stayed(&lent, count) || log.bytes() != before;
                 let bytes = hex(&lent[..count]);
                 Some(format!("{answer} {bytes}{}", mark(changed)))
+            }
+            ["minimum", level] => {
+                let level = wide_int(level)?;
+                let log = self.log.as_mut()?;
+                let before = log.bytes().to_vec();
+                let answer = log.set_minimum(level);
+                let changed = log.bytes() != before;
+                Some(format!("{answer}{}", mark(changed)))
             }
             ["console", level, setting] => {
                 let yes = to_console(wide_int(level)?, wide_int(setting)?);

@@ -412,10 +412,15 @@ impl Script<'_> {
                     self.say(format!("command 8 {level} 1 0 0"));
                     self.say("numbers");
                 }
-                for kind in [6, 7] {
-                    self.say(format!("command {kind} 0 1 0 0"));
+                for level in [-1, 0, 1, 5, 8, 9, 257, 1 << 32, i64::MIN, i64::MAX] {
+                    self.say(format!("minimum {level}"));
                     self.say("numbers");
                 }
+                for call in ["6 0", "7 0", "6 9", "6 0", "8 3", "7 0", "7 9"] {
+                    self.say(format!("command {call} 1 0 0"));
+                    self.say("numbers");
+                }
+                self.say(format!("minimum {}", n.minimum));
             }
             _ => {
                 // Nothing in here changes the log.

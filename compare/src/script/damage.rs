@@ -6,12 +6,13 @@ use crate::record::{Record, BULK, HEADING};
 
 /// What puts a change by hand right again.
 enum Repair {
-    Number(&'static str, u64),
+    Number(&'static str, String),
     Bytes(u64, Vec<u8>),
 }
 
-const NAMES: [&str; 8] = [
-    "start", "used", "first", "next", "clear", "position", "offset", "console",
+/// The log's numbers, as `numbers` writes them.
+const NAMES: [&str; 10] = [
+    "start", "used", "first", "next", "clear", "position", "offset", "console", "minimum", "saved",
 ];
 
 impl Script<'_> {
@@ -42,6 +43,16 @@ impl Script<'_> {
         }
     }
 
+    /// The word that sets one of the log's numbers to what it is now.
+    pub(super) fn word_of(&mut self, name: &str) -> String {
+        let numbers = self.machine.answer(b"numbers");
+        let mut words = NAMES.iter().zip(numbers.split(' '));
+        let (_, word) = words
+            .find(|(&other, _)| other == name)
+            .expect("it is one of the numbers");
+        word.into()
+    }
+
     fn change_number(&mut self, repairs: &mut Vec<Repair>) {
         let name = self.random.pick(&NAMES);
         let n = self.numbers();
@@ -53,18 +64,14 @@ impl Script<'_> {
         };
         let form = form.unwrap_or(967) as u64;
         let any = self.random.below(100);
-        let (old, choices) = match name {
-            "start" => (n.start, [0, n.start, capacity, n.start.saturating_add(any)]),
-            "used" => (n.used, [0, n.used, capacity, n.used.saturating_add(any)]),
-            "first" => (n.first, [0, n.first, n.next, n.first.saturating_sub(any)]),
-            "next" => (
-                n.next,
-                [n.first, n.next, n.next, n.next.saturating_add(any)],
-            ),
-            "clear" => (n.clear, [0, n.first, n.next, n.next.saturating_sub(any)]),
-            "position" => (n.position, [0, n.first, n.next, n.next.saturating_sub(any)]),
-            "offset" => (n.offset, [form, form, 966, 0]),
-            _ => (n.console, [0, 1, 8, 255]),
+        let choices = match name {
+            "start" => [0, n.start, capacity, n.start.saturating_add(any)],
+            "used" => [0, n.used, capacity, n.used.saturating_add(any)],
+            "first" => [0, n.first, n.next, n.first.saturating_sub(any)],
+            "next" => [n.first, n.next, n.next, n.next.saturating_add(any)],
+            "clear" | "position" => [0, n.first, n.next, n.next.saturating_sub(any)],
+            "offset" => [form, form, 966, 0],
+            _ => [0, 1, 8, 255],
         };
         let choice = self.random.pick(&choices);
         let value = match self.random.below(20) {
@@ -77,8 +84,11 @@ impl Script<'_> {
         if wide_console && !self.wide {
             return;
         }
-        repairs.push(Repair::Number(name, old));
-        self.say(format!("number {name} {value}"));
+        repairs.push(Repair::Number(name, self.word_of(name)));
+        match name == "saved" && self.random.chance(20) {
+            true => self.say("number saved -"),
+            false => self.say(format!("number {name} {value}")),
+        }
     }
 
     /// Puts bytes at a place of the ring, going on at its start.
@@ -300,15 +310,19 @@ impl Script<'_> {
         let around = |number: u64| [number.wrapping_sub(1), number, number.wrapping_add(1)];
         let last = [capacity - 1, capacity, u64::MAX];
         let none = [u64::MAX; 3];
+        let far = [257, (1 << 32) + 5, u64::MAX];
         let sweeps = [
-            ("start", n.start, [around(n.start), last, none]),
-            ("used", n.used, [around(n.used), around(capacity), none]),
-            ("first", n.first, [around(n.first), around(n.next), none]),
-            ("next", n.next, [around(n.next), around(n.first), none]),
-            ("clear", n.clear, [around(n.next), around(n.first), none]),
-            ("console", n.console, [around(1), around(8), around(256)]),
+            ("start", [around(n.start), last, none]),
+            ("used", [around(n.used), around(capacity), none]),
+            ("first", [around(n.first), around(n.next), none]),
+            ("next", [around(n.next), around(n.first), none]),
+            ("clear", [around(n.next), around(n.first), none]),
+            ("console", [around(1), around(8), around(256)]),
+            ("minimum", [around(1), around(8), far]),
+            ("saved", [around(1), around(8), far]),
         ];
-        for (name, old, values) in sweeps {
+        for (name, values) in sweeps {
+            let old = self.word_of(name);
             for value in values.concat() {
                 if name == "console" && value > i32::MAX as u64 && !self.wide {
                     continue;
@@ -502,6 +516,10 @@ impl Script<'_> {
             _ => self.random.within(0, top),
         };
         let console = self.random.within(1, 8);
+        let minimum = match self.random.below(2) {
+            0 => 1,
+            _ => self.random.within(1, 8),
+        };
         let mut values = [
             start as u64,
             used as u64,
@@ -511,14 +529,17 @@ impl Script<'_> {
             position,
             offset,
             console,
+            minimum,
         ];
         if self.random.chance(15) {
-            let index = self.random.below(7) as usize;
+            let index = self.random.below(values.len() as u64) as usize;
             values[index] = self.near(values[index]);
         }
         for (name, value) in NAMES.iter().zip(values) {
             self.say(format!("number {name} {value}"));
         }
+        let saved = self.any_level("saved");
+        self.say(format!("number saved {saved}"));
         self.say("check");
         for reader in 0..self.machine.readers.len().min(3) {
             let number = self.random.within(first, next);

@@ -3,6 +3,7 @@
 //! The script is played as it is written, so that lengths and places can be chosen to fit.
 
 mod calls;
+mod console;
 mod damage;
 mod messages;
 mod trail;
@@ -13,6 +14,8 @@ use crate::random::Random;
 use crate::record::Record;
 use std::io::{self, Write};
 
+pub use console::{write_all_levels, write_all_runs};
+
 /// What a script is made of.
 #[derive(Clone, Copy, PartialEq, Eq)]
 pub enum Kind {
@@ -22,6 +25,8 @@ pub enum Kind {
     Wide,
     /// Saved trails, and what they need.
     Trail,
+    /// The console's levels: runs of calls that move them, and levels by hand.
+    Console,
 }
 
 /// Writes `lines` lines.
@@ -43,6 +48,7 @@ pub fn write_script(seed: u64, lines: u64, kind: Kind, output: &mut dyn Write) -
     while script.left > 0 {
         match kind {
             Kind::Trail => script.trail_chapter(),
+            Kind::Console => script.console_chapter(),
             _ => script.chapter(),
         }
         if let Some(error) = script.failure.take() {
@@ -129,6 +135,9 @@ impl Script<'_> {
             }
             return;
         }
+        if kind == Kind::Console {
+            return;
+        }
         for _ in 0..3 {
             self.say("reader");
         }
@@ -210,7 +219,7 @@ impl Script<'_> {
     }
 
     fn step(&mut self) {
-        match self.random.below(1_010) {
+        match self.random.below(1_050) {
             0..=199 => self.outside(),
             200..=309 => self.from_box(),
             310..=459 => self.read(),
@@ -230,19 +239,21 @@ impl Script<'_> {
             823..=826 => self.all_slots(),
             827..=836 => self.odd_line(),
             837..=999 => self.delivery(),
-            _ => self.trail_scene(),
+            1_000..=1_009 => self.trail_scene(),
+            _ => self.console_scene(),
         }
     }
 
     /// Any call on the log.
     fn log_call(&mut self) {
-        match self.random.below(17) {
+        match self.random.below(18) {
             0 | 1 => self.outside(),
             2 | 3 => self.from_box(),
             4..=7 => self.read(),
             8 | 9 => self.move_reader(),
             10..=13 => self.command(),
             14 | 15 => self.look(),
+            16 => self.minimum(),
             _ => self.any_save(),
         }
     }
@@ -367,6 +378,17 @@ impl Script<'_> {
             "number start 18446744073709551616",
             "number start -1",
             "number start 1x",
+            "number start -",
+            "number console -",
+            "number minimum",
+            "number minimum -",
+            "number minimum -1",
+            "number minimum 18446744073709551616",
+            "number saved",
+            "number saved -1",
+            "number saved --",
+            "number saved - -",
+            "number saved 18446744073709551616",
             "poke 0",
             "poke 0 0",
             "poke 0 0G",
@@ -407,6 +429,14 @@ impl Script<'_> {
             "command 2 5 -1 0 5",
             "command 2 5 1 0 300001",
             "command x 5 1 0 5",
+            "minimum",
+            "minimum ",
+            "minimum x",
+            "minimum -",
+            "minimum 5 5",
+            "minimum 9223372036854775808",
+            "minimum -9223372036854775809",
+            "minimum 18446744073709551615",
             "console 1",
             "console x 1",
             "board",
@@ -488,6 +518,11 @@ impl Script<'_> {
             "number console 4294967303",
             "number console 18446744073709551615",
             "number offset 4294967296",
+            "minimum 005",
+            "minimum -0",
+            "minimum +5",
+            "number minimum 01",
+            "number saved 008",
         ];
         if self.wide && self.random.chance(60) {
             let line = self.random.pick(WIDE);

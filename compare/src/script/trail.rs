@@ -224,11 +224,12 @@ impl Script<'_> {
             self.read_trail(3);
         }
         if self.random.chance(50) {
-            let console = self.numbers().console;
-            self.say("number console 9");
+            let name = self.random.pick(&["console", "minimum", "saved"]);
+            let old = self.word_of(name);
+            self.say(format!("number {name} 9"));
             self.say(format!("save {number} 0"));
             self.say(format!("save {number} 90000"));
-            self.say(format!("number console {console}"));
+            self.say(format!("number {name} {old}"));
         }
     }
 

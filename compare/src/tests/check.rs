@@ -10,7 +10,7 @@ fn three() -> Play {
     play.is(&format!("outside 1 {}", x("<134>abc")), "8 0");
     play.is("box 0 3 2 78 -", "1 0");
     play.is(&format!("box 1 3 3 74 {}", x("k=v")), "4 0");
-    play.is("numbers", "0 80 0 3 0 0 0 7");
+    play.is("numbers", "0 80 0 3 0 0 0 7 1 -");
     play
 }
 
@@ -39,6 +39,21 @@ fn numbers_that_need_no_heading() {
     after(&["number console 1"], "fine");
     after(&["number console 8"], "fine");
     after(&["number console 9"], "numbers");
+    for name in ["minimum", "saved"] {
+        for (value, wanted) in [
+            ("0", "numbers"),
+            ("1", "fine"),
+            ("8", "fine"),
+            ("9", "numbers"),
+        ] {
+            after(&[&format!("number {name} {value}")], wanted);
+        }
+        // Numbers whose low bits would be a level.
+        for value in ["257", "4294967301", "9223372036854775809", TOP] {
+            after(&[&format!("number {name} {value}")], "numbers");
+        }
+    }
+    after(&["number saved 9", "number saved -"], "fine");
     after(
         &["number next 18446744073709551615", "number start 1024"],
         "numbers",
@@ -146,6 +161,12 @@ fn room_for_headings() {
 fn the_order_of_the_tests() {
     // Numbers that need no heading come before headings.
     after(&["poke 22 00", "number console 9"], "numbers");
+    after(&["poke 22 00", "number minimum 0"], "numbers");
+    after(&["poke 22 00", "number saved 9"], "numbers");
+    after(
+        &["poke 22 00", "number minimum 8", "number saved 1"],
+        "heading 0",
+    );
     after(
         &["poke 22 00", "number position 3", "number offset 1"],
         "numbers",
@@ -166,7 +187,7 @@ fn records_found_by_the_check_are_read() {
     play.is("outside 0 61", "-77 0");
     play.is("number console 5", "set");
     play.is("outside 0 61", "1 0");
-    play.is("numbers", "0 105 0 4 0 0 0 5");
+    play.is("numbers", "0 105 0 4 0 0 0 5 1 -");
 }
 
 #[test]
@@ -184,7 +205,7 @@ fn a_log_moved_by_hand() {
     play.is("number used 0", "set");
     play.is("check", "fine");
     play.is("outside 0 7a", "1 0");
-    play.is("numbers", "1023 25 3 4 0 0 0 7");
+    play.is("numbers", "1023 25 3 4 0 0 0 7 1 -");
     play.is(
         "peek 0 24",
         concat!(

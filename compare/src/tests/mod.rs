@@ -1,6 +1,7 @@
 //! Cases with answers worked out by hand from document 01.
 
 mod check;
+mod console;
 mod moments;
 mod receiving;
 mod refusals;

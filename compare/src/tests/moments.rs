@@ -14,7 +14,7 @@ fn first_goal() -> Play {
 #[test]
 fn t1() {
     let mut play = first_goal();
-    play.is("numbers", "0 35 0 1 0 0 0 7");
+    play.is("numbers", "0 35 0 1 0 0 0 7 1 -");
     let bytes = concat!(
         "274f4c0000000000",
         "0000000000000000",
@@ -38,7 +38,7 @@ fn t2() {
     play.is("command 9 0 1 0 0", "17 -");
     play.is("command 2 5 1 0 5", &format!("5 {}", x("<134>")));
     play.is("command 9 0 1 0 0", "12 -");
-    play.is("numbers", "0 35 0 1 0 0 5 7");
+    play.is("numbers", "0 35 0 1 0 0 5 7 1 -");
 }
 
 #[test]
@@ -92,16 +92,16 @@ fn t11_and_t12() {
     for _ in 0..42 {
         play.is("outside 0 -", "0 0");
     }
-    play.is("numbers", "0 1008 0 42 0 0 0 7");
+    play.is("numbers", "0 1008 0 42 0 0 0 7 1 -");
     play.is("outside 0 -", "0 1");
-    play.is("numbers", "24 1008 1 43 0 0 0 7");
+    play.is("numbers", "24 1008 1 43 0 0 0 7 1 -");
     play.is("read 0 5000", "-32 1 -");
     play.is("where 0", "1");
     play.is("read 0 5000", &read_of("12,1,0,-;\n"));
 
     play.is(&format!("outside 0 {}", many(b'p', 960)), "960 41");
     // Started at 24, moved past 41 records of 24; one empty record and the new one are left.
-    play.is("numbers", "1008 1008 42 44 0 0 0 7");
+    play.is("numbers", "1008 1008 42 44 0 0 0 7 1 -");
     play.is(&format!("outside 0 {}", many(b'p', 961)), "-22 0");
     play.is("check", "fine");
 }

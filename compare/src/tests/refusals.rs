@@ -16,6 +16,10 @@ fn played() -> Play {
 fn ebadfd_when_the_check_fails() {
     for damage in [
         "number console 0",
+        "number minimum 0",
+        "number minimum 9",
+        "number saved 0",
+        "number saved 9",
         "poke 22 2b",
         "number used 51",
         "number start 1024",
@@ -34,6 +38,8 @@ fn ebadfd_when_the_check_fails() {
             play.all_unmoved(&[&format!("command {kind} 1 1 0 1")], "-77 -");
             play.all_unmoved(&[&format!("command {kind} 9 0 1 1")], "-77 -");
         }
+        play.all_unmoved(&["minimum 5", "minimum 0", "minimum 9"], "-77");
+        play.all_unmoved(&["save 7 512", "save 7 0"], "-77 -");
         // Making a reader asks nothing.
         play.is("reader", "reader 1");
         play.is("where 1", "0");
@@ -201,7 +207,7 @@ fn einval_on_a_zero_from_outside() {
         play.all_unmoved(&[&format!("outside 0 {}", many(0, count))], "-22 0");
     }
     // Two records of 26 bytes, as before; 960 bytes without a zero are still taken, 961 are not.
-    play.is("numbers", "0 52 0 2 0 0 0 7");
+    play.is("numbers", "0 52 0 2 0 0 0 7 1 -");
     play.is("check", "fine");
     play.all_unmoved(&[&format!("outside 0 {}", many(b'p', 961))], "-22 0");
     play.is(&format!("outside 0 {}", many(b'p', 960)), "960 1");
@@ -253,7 +259,7 @@ fn eoverflow() {
     play.is("outside 0 61", "1 0");
     play.is(
         "numbers",
-        "0 25 18446744073709551614 18446744073709551615 0 0 0 7",
+        "0 25 18446744073709551614 18446744073709551615 0 0 0 7 1 -",
     );
     play.all_unmoved(&["outside 0 61", "box 1 1 0 61 -"], "-75 0");
     // After -22.
@@ -270,7 +276,7 @@ fn eoverflow() {
     play.is("command 2 9 1 0 9", &format!("6 {}", x("<12>a\n")));
     play.is(
         "numbers",
-        &format!("0 25 18446744073709551614 {TOP} 0 {TOP} 0 7"),
+        &format!("0 25 18446744073709551614 {TOP} 0 {TOP} 0 7 1 -"),
     );
     play.is("check", "fine");
 }
@@ -292,7 +298,7 @@ fn epipe() {
     play.is("read 0 0", "-32 5 -");
     play.is("read 0 0", "-11 0 -");
     play.is("command 2 1 1 0 1", "-11 -");
-    play.is("numbers", "0 0 5 5 0 0 0 7");
+    play.is("numbers", "0 0 5 5 0 0 0 7 1 -");
 }
 
 #[test]

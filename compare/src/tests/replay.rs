@@ -49,6 +49,9 @@ fn nothing_is_there_before_it_is_made() {
             "read 0 0",
             "seek 0 0 0",
             "command 0 0 1 0 0",
+            "minimum 1",
+            "number minimum 1",
+            "number saved -",
             "slot 16",
             "deliver -",
         ],
@@ -77,6 +80,20 @@ fn words_that_are_none() {
             "number start",
             "number start 18446744073709551616",
             "number start -1",
+            "number minimum -",
+            "number minimum -1",
+            "number minimum 18446744073709551616",
+            "number saved",
+            "number saved --",
+            "number saved -1",
+            "number saved 18446744073709551616",
+            "number console -",
+            "minimum",
+            "minimum -",
+            "minimum 1 1",
+            "minimum +1",
+            "minimum 9223372036854775808",
+            "minimum -9223372036854775809",
             "poke 0 0",
             "poke 0 FF",
             "poke 0 ",
@@ -147,14 +164,17 @@ fn peeks_and_pokes_reach_as_far_as_the_buffer() {
 fn numbers_set_by_hand() {
     let mut play = Play::new(&["log 1024 0"]);
     for (i, name) in [
-        "start", "used", "first", "next", "clear", "position", "offset", "console",
+        "start", "used", "first", "next", "clear", "position", "offset", "console", "minimum",
+        "saved",
     ]
     .iter()
     .enumerate()
     {
         play.is(&format!("number {name} {}", 10 + i), "set");
     }
-    play.is("numbers", "10 11 12 13 14 15 16 17");
+    play.is("numbers", "10 11 12 13 14 15 16 17 18 19");
+    play.is("number saved -", "set");
+    play.is("numbers", "10 11 12 13 14 15 16 17 18 -");
 }
 
 #[test]

@@ -65,14 +65,14 @@ fn the_box_may_write_zeros() {
         "10 0",
     );
     // 25 and 34 bytes.
-    play.is("numbers", "0 59 0 2 0 0 0 7");
+    play.is("numbers", "0 59 0 2 0 0 0 7 1 -");
     play.is("read 0 5000", &format!("14 0 {}", x("12,0,0,-;\\x00\n")));
     let line = "12,1,0,-;a\\x00b\n a=1\n b=2\n";
     play.is("read 0 5000", &format!("26 0 {}", x(line)));
     let forms = x("<12>\0\n<12>a\0b\n");
     play.is("command 3 99 1 0 99", &format!("14 {forms}"));
     play.is(&format!("box 1 4 0 {} -", many(0, 960)), "960 1");
-    play.is("numbers", "25 1018 1 3 0 0 0 7");
+    play.is("numbers", "25 1018 1 3 0 0 0 7 1 -");
     play.is("check", "fine");
 }
 
@@ -80,12 +80,12 @@ fn the_box_may_write_zeros() {
 fn a_record_runs_past_the_end_and_goes_on_at_the_start() {
     let mut play = Play::new(&["log 1024 165", "reader"]);
     play.is(&format!("outside 0 {}", many(b'a', 960)), "960 0");
-    play.is("numbers", "0 984 0 1 0 0 0 7");
+    play.is("numbers", "0 984 0 1 0 0 0 7 1 -");
     // 31 bytes at 984; there is room.
     play.is(&format!("outside 0 {}", x("bcdefgh")), "7 0");
-    play.is("numbers", "0 1015 0 2 0 0 0 7");
+    play.is("numbers", "0 1015 0 2 0 0 0 7 1 -");
     play.is(&format!("outside 3 {}", x("<134>ij")), "7 1");
-    play.is("numbers", "984 57 1 3 0 0 0 7");
+    play.is("numbers", "984 57 1 3 0 0 0 7 1 -");
     play.is("peek 1015 9", "030000000000000002");
     play.is(
         "peek 0 17",
@@ -148,7 +148,7 @@ fn the_clear_mark_may_point_at_dropped_records() {
     play.is("command 4 0 1 0 0", "0 -");
     play.is(&format!("outside 0 {}", many(b'b', 17)), "17 0");
     play.is(&format!("outside 0 {}", many(b'p', 960)), "960 2");
-    play.is("numbers", "66 984 2 3 1 0 0 7");
+    play.is("numbers", "66 984 2 3 1 0 0 7 1 -");
     play.is("seek 0 0 3", "0");
     play.is("where 0", "1");
     play.is("read 0 5000", "-32 1 -");
@@ -161,13 +161,13 @@ fn command_2_cuts_anywhere() {
     let mut play = played(&["ab", "cd"]);
     // "<12>ab\n<12>cd\n"
     play.is("command 2 6 1 0 6", &format!("6 {}", x("<12>ab")));
-    play.is("numbers", "0 52 0 2 0 0 6 7");
+    play.is("numbers", "0 52 0 2 0 0 6 7 1 -");
     play.is("command 2 1 1 0 1", "1 0a");
-    play.is("numbers", "0 52 0 2 0 1 0 7");
+    play.is("numbers", "0 52 0 2 0 1 0 7 1 -");
     play.is("command 2 0 1 0 0", "0 -");
     play.is("command 9 0 1 0 0", "7 -");
     play.is("command 2 100 1 0 100", &format!("7 {}", x("<12>cd\n")));
-    play.is("numbers", "0 52 0 2 0 2 0 7");
+    play.is("numbers", "0 52 0 2 0 2 0 7 1 -");
     play.is("command 9 0 1 0 0", "0 -");
     // Readers keep their records.
     play.is("read 0 5000", &format!("12 0 {}", x("12,0,0,-;ab\n")));
@@ -178,12 +178,12 @@ fn command_2_goes_on_from_the_oldest_record() {
     let mut play = played(&["ab", "cd"]);
     play.is("command 2 6 1 0 6", &format!("6 {}", x("<12>ab")));
     play.is(&format!("outside 0 {}", many(b'p', 950)), "950 1");
-    play.is("numbers", "26 1000 1 3 0 0 6 7");
+    play.is("numbers", "26 1000 1 3 0 0 6 7 1 -");
     play.is("command 9 0 1 0 0", "962 -");
     play.is("command 2 0 1 0 9", "0 -");
-    play.is("numbers", "26 1000 1 3 0 0 6 7");
+    play.is("numbers", "26 1000 1 3 0 0 6 7 1 -");
     play.is("command 2 3 1 0 9", &format!("3 {}", x("<12")));
-    play.is("numbers", "26 1000 1 3 0 1 3 7");
+    play.is("numbers", "26 1000 1 3 0 1 3 7 1 -");
 }
 
 #[test]
@@ -193,9 +193,9 @@ fn commands_3_and_4_give_the_last_bytes() {
     play.is("command 3 14 0 0 14", &format!("14 {}", x(all)));
     play.is("command 3 13 0 0 99", &format!("13 {}", x(&all[1..])));
     play.is("command 3 0 0 0 0", "0 -");
-    play.is("numbers", "0 52 0 2 0 0 0 7");
+    play.is("numbers", "0 52 0 2 0 0 0 7 1 -");
     play.is("command 4 3 1 1 3", &format!("3 {}", x("cd\n")));
-    play.is("numbers", "0 52 0 2 2 0 0 7");
+    play.is("numbers", "0 52 0 2 2 0 0 7 1 -");
     play.is("command 4 9 1 0 9", "0 -");
     play.is("command 9 0 1 0 0", "14 -");
     play.is("outside 0 65", "1 0");
@@ -208,16 +208,16 @@ fn commands_3_and_4_give_the_last_bytes() {
 fn console_commands() {
     let mut play = played(&[]);
     play.is("command 6 -5 1 0 0", "0 -");
-    play.is("numbers", "0 0 0 0 0 0 0 1");
+    play.is("numbers", "0 0 0 0 0 0 0 1 1 7");
     play.is("command 7 -5 1 0 0", "0 -");
-    play.is("numbers", "0 0 0 0 0 0 0 7");
+    play.is("numbers", "0 0 0 0 0 0 0 7 1 -");
     play.is("command 8 8 1 0 0", "0 -");
-    play.is("numbers", "0 0 0 0 0 0 0 8");
+    play.is("numbers", "0 0 0 0 0 0 0 8 1 -");
     play.is("command 8 1 1 0 0", "0 -");
-    play.is("numbers", "0 0 0 0 0 0 0 1");
+    play.is("numbers", "0 0 0 0 0 0 0 1 1 -");
     play.is("command 6 0 1 0 0", "0 -");
     play.is("command 7 0 1 0 0", "0 -");
-    play.is("numbers", "0 0 0 0 0 0 0 7");
+    play.is("numbers", "0 0 0 0 0 0 0 1 1 -");
 }
 
 #[test]
@@ -261,7 +261,7 @@ fn no_write_drops_more_than_41() {
     for _ in 0..43 {
         play.is("outside 0 -", "0 0");
     }
-    play.is("numbers", "0 1032 0 43 0 0 0 7");
+    play.is("numbers", "0 1032 0 43 0 0 0 7 1 -");
     play.is(&format!("outside 0 {}", many(b'p', 960)), "960 41");
-    play.is("numbers", "984 1032 41 44 0 0 0 7");
+    play.is("numbers", "984 1032 41 44 0 0 0 7 1 -");
 }
