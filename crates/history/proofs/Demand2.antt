@@ -184,7 +184,7 @@ agree-step s p (command x lent) a ok t =
     (command-step s p a ok (commandBy (held p) x lent (commandRuling (held p) x lent)))
 agree-step s p (save number lent) a ok t = rw (ruled-is s p a ok (λ v. saveRuling v number lent), a .same) (refl, a)
 agree-step s p (minimum wanted) a ok t =
-    rw (ruled-is s p a ok (λ v. minimumRuling v wanted), a .same) (refl, agree-marks s p a ok (minimumBy (held p) wanted (minimumRuling (held p) wanted) .marks))
+    rw (ruled-is s p a ok (λ v. minimumRuling wanted), a .same) (refl, agree-marks s p a ok (minimumBy (held p) wanted (minimumRuling wanted) .marks))
 agree-step s p check a ok t = (ap verdict (is-fine s p a ok), a)
 agree-step s p (console level setting) a ok t = (refl, a)
 

@@ -84,7 +84,7 @@ module _ (p : Past) (m : ℕ) (saved : settingIn p .saved ≡ Level m) where
   keeps-saved (seek i offset whence) h = there-keeps (ltb i (length (p .readers))) _ _
   keeps-saved (command a lent) h = command-keeps a lent h (commandRuling (held p) a lent)
   keeps-saved (save number lent) h = saved
-  keeps-saved (minimum wanted) h = minimum-leaves wanted (minimumRuling (held p) wanted)
+  keeps-saved (minimum wanted) h = minimum-leaves wanted (minimumRuling wanted)
   keeps-saved check h = saved
   keeps-saved (console level setting) h = saved
 

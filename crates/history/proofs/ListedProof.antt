@@ -484,7 +484,7 @@ module _ (s : State) (failing : Type 0) (bs : isBad (checked (s .log) (s .buffer
         exactly =
             exact (minimum wanted) 0 _
             (minimum-number view wanted _
-            ∙ ruled-number (λ v. minimumRuling v wanted) (pos 0)
+            ∙ ruled-number (λ v. minimumRuling wanted) (pos 0)
             ∙ first-seek wrong false (not (wantsLevel wanted)) (pos 0));
       }
   listed check h = absurd h

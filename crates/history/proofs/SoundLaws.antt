@@ -141,7 +141,7 @@ sound-step p (command a lent) s t =
     sound-marks p s (c .marks) (marked-by p s a lent _ refl)
 sound-step p (save number lent) s t = s
 sound-step p (minimum wanted) s t =
-    let m = minimumBy (held p) wanted (minimumRuling (held p) wanted) in
+    let m = minimumBy (held p) wanted (minimumRuling wanted) in
     sound-marks p s (m .marks) (minimum-marked-by p s wanted _)
 sound-step p check s t = s
 sound-step p (console level setting) s t = s

@@ -255,7 +255,7 @@ nine-refused : AsListed (minimumRuledBy nineTaken) → ⊥
 nine-refused f =
     let x = f (empty 0) (bytes-of 0) (minimum (pos 9)) tt in
     let a : pos 0 ≡ x .answer =
-    ap (numberBy (pos 0)) (sym (by-ruling 0 (λ v. nineTaken v (pos 9)))) ∙ sym (minimum-number (view 0) (pos 9) _) ∙ x .answers
+    ap (numberBy (pos 0)) (sym (by-ruling 0 (λ v. nineTaken (pos 9)))) ∙ sym (minimum-number (view 0) (pos 9) _) ∙ x .answers
     in
     let y : x .answer ≡ refusalNumber EINVAL =
     x .exactly .always EINVAL (inr (inr (inr (inl refl)))) (minimum-outside (λ n l h e. other 9 n e (omega arith))) none-before-outside

@@ -97,7 +97,7 @@ abbrev pub anyBuffer : View → ℕ → List ℕ → Ruling
 anyBuffer v number lent = allowed
 
 -- our log, but for the ruling on the minimum
-abbrev pub minimumRuledBy : (View → ℤ → Ruling) → State → Call → Reply
+abbrev pub minimumRuledBy : (ℤ → Ruling) → State → Call → Reply
 minimumRuledBy onMinimum s (outside time bytes) = answered s (outside time bytes)
 minimumRuledBy onMinimum s (box facility level time text dictionary) = answered s (box facility level time text dictionary)
 minimumRuledBy onMinimum s make = answered s make
@@ -107,13 +107,13 @@ minimumRuledBy onMinimum s (seek i offset whence) = answered s (seek i offset wh
 minimumRuledBy onMinimum s (command a lent) = answered s (command a lent)
 minimumRuledBy onMinimum s (save number lent) = answered s (save number lent)
 minimumRuledBy onMinimum s (minimum wanted) =
-    afterMinimum s (onNumbers (s .log) (minimumBy (viewOf (s .log) (s .buffer)) wanted (ruled (s .log) (s .buffer) (λ v. onMinimum v wanted)))) .reply
+    afterMinimum s (onNumbers (s .log) (minimumBy (viewOf (s .log) (s .buffer)) wanted (ruled (s .log) (s .buffer) (λ v. onMinimum wanted)))) .reply
 minimumRuledBy onMinimum s check = answered s check
 minimumRuledBy onMinimum s (console level setting) = answered s (console level setting)
 
 -- 9 taken, as one more than the levels
-abbrev pub nineTaken : View → ℤ → Ruling
-nineTaken v wanted = rulingOf ((not (wantsLevel wanted) && not (is wanted 9), EINVAL) ∷ [])
+abbrev pub nineTaken : ℤ → Ruling
+nineTaken wanted = rulingOf ((not (wantsLevel wanted) && not (is wanted 9), EINVAL) ∷ [])
 
 pub record WrongRefused : Type 0 where
   -- with our own rulings it is our log
