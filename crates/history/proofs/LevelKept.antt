@@ -1,6 +1,6 @@
 -- Off and on keep the level: once it is saved, no call but command 7 touches the save, and the log's setting is the history's.
 use Prim.Native.Nat.{ℕ}
-use mathlib.Core.Path.{_≡_, refl, ap, sym, _∙_}
+use mathlib.Core.Path.{_≡_, refl, ap, _∙_}
 use mathlib.Core.Bool.{Bool, true, false, cond}
 use mathlib.Core.List.{List, [], _∷_, _++_}
 use borrow.Author.Tests.{eqb-true}
@@ -13,17 +13,16 @@ use Rattle.console.specs.declared.Saved.the-variants.{Nothing, Level}
 use Rattle.console.proofs.TurnLaws.{off-saves, off-keeps, set-keeps, minimum-keeps, on-restores, on-empties}
 use Rattle.record.specs.Record.{Record}
 use Rattle.log.specs.Answer.{Ruling, allowed, refused, is, natural}
-use Rattle.log.specs.View.{Marks}
 use Rattle.writes.specs.Write.{outsideRecord, boxRecord, outsideRuling, boxRuling}
 use Rattle.syslog.specs.Command.{commandRuling, marksAfter, commandBy}
 use Rattle.syslog.specs.Minimum.{minimumRuling, minimumBy}
 use Rattle.syslog.specs.declared.Asked.{Asked}
-use Rattle.history.specs.Calls.{Call, outside, box, make, place, read, seek, command, save, minimum, check, console, Reply, ifThere, State, stateAfter, nobody}
+use Rattle.history.specs.Calls.{Call, outside, box, make, place, read, seek, command, save, minimum, check, console, Reply, ifThere, nobody}
 use Rattle.history.specs.Past.{Past, Told, telling, held, nextNumber, readersAt, pastWrite, pastStep, pastAfter, freshPast}
 use Rattle.history.specs.Demand2.{fresh, AllTimed}
 use Rattle.history.specs.LevelKept.{Order, ordered, NotOn, NoneOn, offAndOn, KeepsLevel, LogKeepsLevel}
-use Rattle.history.proofs.SoundLaws.{Sound, sound-after, sound-fresh}
-use Rattle.history.proofs.Demand2.{Agrees, setting-is, agree-after, agree-fresh}
+use Rattle.history.proofs.SoundLaws.{sound-after, sound-fresh}
+use Rattle.history.proofs.Demand2.{setting-is, agree-after, agree-fresh}
 
 abbrev settingIn : Past → Console
 settingIn p = p .marks .setting
