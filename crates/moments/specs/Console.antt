@@ -44,6 +44,7 @@ twice =
     ∷ done 6 0 1 1 (Level 5)
     ∷ done 6 0 1 1 (Level 5)
     ∷ done 7 0 5 1 Nothing
+    ∷ done 7 0 5 1 Nothing
     ∷ done 8 3 3 1 Nothing
     ∷ done 7 0 3 1 Nothing
     ∷ []
