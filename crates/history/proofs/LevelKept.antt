@@ -1,7 +1,7 @@
 -- Off and on keep the level: once it is saved, no call but command 7 touches the save, and the log's setting is the history's.
 use Prim.Native.Nat.{ℕ}
 use mathlib.Core.Path.{_≡_, refl, ap, _∙_}
-use mathlib.Core.Bool.{Bool, true, false, cond}
+use mathlib.Core.Bool.{Bool, true, false, cond, false≢true}
 use mathlib.Core.List.{List, [], _∷_, _++_}
 use borrow.Author.Tests.{eqb-true}
 use lib.Dec.{ltb}
@@ -13,6 +13,9 @@ use Rattle.console.specs.declared.Saved.the-variants.{Nothing, Level}
 use Rattle.console.proofs.TurnLaws.{off-saves, off-keeps, set-keeps, minimum-keeps, on-restores, on-empties}
 use Rattle.record.specs.Record.{Record}
 use Rattle.log.specs.Answer.{Ruling, allowed, refused, is, natural}
+use Rattle.log.specs.View.{View}
+use Rattle.log.specs.declared.Refusal.{Refusal}
+use Rattle.log.specs.declared.Refusal.the-variants.{EPERM}
 use Rattle.writes.specs.Write.{outsideRecord, boxRecord, outsideRuling, boxRuling}
 use Rattle.syslog.specs.Command.{commandRuling, marksAfter, commandBy}
 use Rattle.syslog.specs.Minimum.{minimumRuling, minimumBy}
@@ -39,13 +42,13 @@ on-is p o = refl
 
 -- ---- any other call
 
-not-seven : (z : ℤ) → (z ≡ pos 7 → ⊥) → is z 7 ≡ false
-not-seven (pos n) h = go _ refl
-  where
-    go : (t : Bool) → is (pos n) 7 ≡ t → t ≡ false
-    go true e = absurd (h (ap pos (eqb-true n 7 e)))
-    go false e = refl
-not-seven (negsuc n) h = refl
+seven : (z : ℤ) → is z 7 ≡ true → z ≡ pos 7
+seven (pos n) e = ap pos (eqb-true n 7 e)
+seven (negsuc n) e = absurd (false≢true e)
+
+barred : (v : View) (a : Asked) (lent : List ℕ) → a .command ≡ pos 7 → a .privilege ≡ false → commandRuling v a lent ≡ refused EPERM
+unfolding commandRuling
+barred v a lent e f = rw (e, f)
 
 module _ (p : Past) (m : ℕ) (saved : settingIn p .saved ≡ Level m) where
   write-keeps : (r : Record) (bytes : ℕ) (q : Ruling) → settingIn (pastWrite p r bytes q .past) .saved ≡ Level m
@@ -57,15 +60,28 @@ module _ (p : Past) (m : ℕ) (saved : settingIn p .saved ≡ Level m) where
   there-keeps true r readers = saved
   there-keeps false r readers = saved
 
-  command-keeps : (a : Asked) (lent : List ℕ) → (a .command ≡ pos 7 → ⊥) → (q : Ruling) → commandBy (held p) a lent q .marks .setting .saved ≡ Level m
+  other-keeps : (a : Asked) (lent : List ℕ) → is (a .command) 7 ≡ false → (q : Ruling) → commandBy (held p) a lent q .marks .setting .saved ≡ Level m
   unfolding commandBy marksAfter held
-  command-keeps a lent h allowed = rw (not-seven (a .command) h) (go (is (a .command) 6) (is (a .command) 8))
+  other-keeps a lent e allowed = rw e (go (is (a .command) 6) (is (a .command) 8))
     where
       go : (t u : Bool) → cond t (turnedOff (settingIn p)) (cond u (setTo (settingIn p) (natural (a .len))) (settingIn p)) .saved ≡ Level m
       go true u = off-keeps (settingIn p) m saved
       go false true = set-keeps (settingIn p) (natural (a .len)) ∙ saved
       go false false = saved
-  command-keeps a lent h (refused why) = saved
+  other-keeps a lent e (refused why) = saved
+
+  refused-keeps : (a : Asked) (lent : List ℕ) (why : Refusal) → commandBy (held p) a lent (refused why) .marks .setting .saved ≡ Level m
+  unfolding commandBy held
+  refused-keeps a lent why = saved
+
+  command-keeps : (a : Asked) (lent : List ℕ) → NotOn (command a lent) → commandBy (held p) a lent (commandRuling (held p) a lent) .marks .setting .saved ≡ Level m
+  command-keeps a lent h = go _ refl
+    where
+      go : (t : Bool) → is (a .command) 7 ≡ t → commandBy (held p) a lent (commandRuling (held p) a lent) .marks .setting .saved ≡ Level m
+      go true e =
+          let z : a .command ≡ pos 7 = seven (a .command) e in
+          rw (barred (held p) a lent z (h z)) (refused-keeps a lent EPERM)
+      go false e = other-keeps a lent e (commandRuling (held p) a lent)
 
   minimum-leaves : (wanted : ℤ) (q : Ruling) → minimumBy (held p) wanted q .marks .setting .saved ≡ Level m
   unfolding minimumBy held
@@ -81,7 +97,7 @@ module _ (p : Past) (m : ℕ) (saved : settingIn p .saved ≡ Level m) where
   keeps-saved (place i n) h = saved
   keeps-saved (read i lent) h = there-keeps (ltb i (length (p .readers))) _ _
   keeps-saved (seek i offset whence) h = there-keeps (ltb i (length (p .readers))) _ _
-  keeps-saved (command a lent) h = command-keeps a lent h (commandRuling (held p) a lent)
+  keeps-saved (command a lent) h = command-keeps a lent h
   keeps-saved (save number lent) h = saved
   keeps-saved (minimum wanted) h = minimum-leaves wanted (minimumRuling wanted)
   keeps-saved check h = saved

@@ -2,7 +2,7 @@
 -- between the two, on the history and on the log itself.
 use Prim.Native.Nat.{ℕ, _≤_}
 use mathlib.Core.Path.{_≡_}
-use mathlib.Core.Bool.{Bool, true}
+use mathlib.Core.Bool.{Bool, true, false}
 use mathlib.Core.List.{List, [], _∷_, _++_}
 use lib.IntN.{ℤ, pos}
 use lib.ListN.{length}
@@ -21,7 +21,7 @@ pub record Order : Type 0 where
 abbrev pub ordered : ℕ → Order → Call
 ordered type o = command (record { command = pos type; len = o .len; privilege = true; restriction = o .restriction }) (o .lent)
 
--- any call but command 7
+-- any call but a command 7 with privilege; one without is refused
 abbrev pub NotOn : Call → Type 0
 NotOn (outside time bytes) = Unit {0}
 NotOn (box facility level time text dictionary) = Unit {0}
@@ -29,7 +29,7 @@ NotOn make = Unit {0}
 NotOn (place i n) = Unit {0}
 NotOn (read i lent) = Unit {0}
 NotOn (seek i offset whence) = Unit {0}
-NotOn (command a lent) = a .command ≡ pos 7 → ⊥
+NotOn (command a lent) = a .command ≡ pos 7 → a .privilege ≡ false
 NotOn (save number lent) = Unit {0}
 NotOn (minimum wanted) = Unit {0}
 NotOn check = Unit {0}

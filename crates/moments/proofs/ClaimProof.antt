@@ -30,9 +30,9 @@ use Rattle.moments.specs.Case.{AllAgree, done, _and_}
 use Rattle.moments.specs.Table.{t1, t2, t3, t4, t5, t6, t7, t8, t9, t10, t11, t12, last-line, TableAgrees}
 use Rattle.moments.specs.Refusals.{refusals, readers-refused, writes-refused, zeros-refused, commands-refused}
 use Rattle.moments.specs.Pages.{pages, prefixes, from-box, seeks, goes-on, mark-passed, mark-passed-by-4, none-of-dropped, console-8, console-6, console-7, overtaken-end}
-use Rattle.moments.specs.Bytes.{stored, in-front, with-dictionary, only-marks, text-over, start-over, heading-over, dictionary-over, just-full, full-goes-on, position-stays}
+use Rattle.moments.specs.Bytes.{stored, in-front, with-dictionary, only-marks, only-setting, text-over, start-over, heading-over, dictionary-over, just-full, full-goes-on, position-stays}
 use Rattle.moments.specs.Pairs.{together, eperm-before-einval, efault-between, eperm-alone}
-use Rattle.moments.specs.Console.{anthem, nothing-saved, twice, set-between, under-five, below-it, minimum-refused, without-privilege, levels}
+use Rattle.moments.specs.Console.{anthem, nothing-saved, twice, set-between, more-between, under-five, below-it, minimum-refused, without-privilege, levels}
 use Rattle.moments.specs.Claim.{Claim}
 use Rattle.moments.proofs.CaseLaws.{isTimed, pastOutcome, sight, on-fresh, pastChanges, changed, on-changes, listed, pastNumbers, pastLeft, sightLeft, on-any}
 use Rattle.moments.proofs.LyingLaws.{laid, lyingWrite, lyingStep, lyingAfter}
@@ -132,6 +132,7 @@ stored-agree =
     on-any in-front (λ f. refl)
     and on-any with-dictionary (λ f. refl)
     and on-any only-marks (λ f. refl)
+    and on-any only-setting (λ f. refl)
     and on-any text-over (λ f. refl)
     and on-any start-over (λ f. refl)
     and on-any heading-over (λ f. refl)
@@ -165,6 +166,7 @@ levels-agree =
     and on-changes nothing-saved refl
     and on-changes twice refl
     and on-changes set-between refl
+    and on-changes more-between refl
     and on-changes under-five refl
     and on-changes below-it refl
     and on-changes minimum-refused refl

@@ -43,8 +43,7 @@ with-dictionary =
           ++ (blank 8 ++ ((9 ∷ 0 ∷ 6 ∷ 0 ∷ 255 ∷ 7 ∷ 45 ∷ 0 ∷ []) ++ (quoted "bridge upk=1\0l=" ++ drop 39 held)));
     }
 
--- no other call touches a byte: 2 moves its position alone, 5 the mark, 6 the level and the save, 8 the level, the box's call the minimum, seek and read
--- the reader, and a refused write nothing
+-- no other call touches a byte: 2 moves its position alone, 5 the mark, 8 the level, seek and read the reader, and a refused write nothing
 abbrev pub only-marks : Leaves
 only-marks =
     record {
@@ -52,14 +51,26 @@ only-marks =
           ∷ make gives made 0
           ∷ asked 2 5 (blank 5) gives told (pos 5) (quoted "<134>")
           ∷ asked 5 0 [] gives told (pos 0) []
-          ∷ asked 6 0 [] gives told (pos 0) []
           ∷ asked 8 3 [] gives told (pos 0) []
-          ∷ minimum (pos 2) gives told (pos 0) []
           ∷ outside time₂ (replicate 961 97) gives wrote (minus 22) 0
           ∷ seek 0 (pos 0) (pos 2) gives sought (pos 0) 1
           ∷ read 0 [] gives gave (minus 11) 0 1 []
           ∷ [];
-      numbers = record { start = 0; used = 35; first = 0; next = 1; clear = 1; position = 0; offset = 5; level = 3; minimum = 2; saved = Level 7 };
+      numbers = record { start = 0; used = 35; first = 0; next = 1; clear = 1; position = 0; offset = 5; level = 3; minimum = 1; saved = Nothing };
+      buffer = goal;
+    }
+
+-- 6 moves the level and the save alone, 8 the level, and the box's call the minimum; a refused one nothing (document 02, ticket 4)
+abbrev pub only-setting : Leaves
+only-setting =
+    record {
+      steps = outside time₁ (quoted "<134>GOAL home 1") gives wrote (pos 16) 0
+          ∷ asked 6 0 [] gives told (pos 0) []
+          ∷ asked 8 3 [] gives told (pos 0) []
+          ∷ minimum (pos 2) gives told (pos 0) []
+          ∷ minimum (pos 9) gives told (minus 22) []
+          ∷ [];
+      numbers = record { start = 0; used = 35; first = 0; next = 1; clear = 0; position = 0; offset = 0; level = 3; minimum = 2; saved = Level 7 };
       buffer = goal;
     }
 
@@ -204,6 +215,7 @@ stored =
     leaves in-front
     ∷ leaves with-dictionary
     ∷ leaves only-marks
+    ∷ leaves only-setting
     ∷ leaves text-over
     ∷ leaves start-over
     ∷ leaves heading-over

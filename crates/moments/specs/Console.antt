@@ -49,9 +49,13 @@ twice =
     ∷ done 7 0 3 1 Nothing
     ∷ []
 
--- 6, 8 4, 7: an 8 leaves the save alone, and so does one that is refused
+-- 6, 8 4, 7: an 8 leaves the save alone
 abbrev pub set-between : List Change
-set-between =
+set-between = done 6 0 1 1 (Level 7) ∷ done 8 4 4 1 (Level 7) ∷ done 7 0 7 1 Nothing ∷ []
+
+-- and so does one that is refused, and a second 6 behind it
+abbrev pub more-between : List Change
+more-between =
     done 6 0 1 1 (Level 7) ∷ done 8 4 4 1 (Level 7) ∷ refused 9 4 1 (Level 7) ∷ refused 0 4 1 (Level 7) ∷ done 6 0 1 1 (Level 7) ∷ done 7 0 7 1 Nothing ∷ []
 
 -- a minimum of 5: 8 raises 3 and 4 to it, and neither 5 nor 8; 0 and 9 are none; 6 sets it
@@ -126,9 +130,16 @@ misfit least saved =
           ∷ box 1 0 0 [] [] gives wrote (minus 77) 0
           ∷ read 0 [] gives gave (minus 77) 0 5 []
           ∷ seek 0 (pos 0) (pos 0) gives sought (minus 77) 5
+          ∷ asked 0 0 [] gives told (minus 77) []
+          ∷ asked 1 0 [] gives told (minus 77) []
+          ∷ asked 2 1 (blank 1) gives told (minus 77) (blank 1)
+          ∷ asked 3 1 (blank 1) gives told (minus 77) (blank 1)
+          ∷ asked 4 1 (blank 1) gives told (minus 77) (blank 1)
+          ∷ asked 5 0 [] gives told (minus 77) []
           ∷ asked 6 0 [] gives told (minus 77) []
           ∷ asked 7 0 [] gives told (minus 77) []
           ∷ asked 8 4 [] gives told (minus 77) []
+          ∷ asked 9 0 [] gives told (minus 77) []
           ∷ asked 10 0 [] gives told (minus 77) []
           ∷ save 0 (blank 512) gives told (minus 77) (blank 512)
           ∷ minimum (pos 1) gives told (minus 77) []
@@ -177,6 +188,7 @@ levels =
     ∷ changes nothing-saved
     ∷ changes twice
     ∷ changes set-between
+    ∷ changes more-between
     ∷ changes under-five
     ∷ changes below-it
     ∷ changes minimum-refused
