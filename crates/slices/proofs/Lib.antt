@@ -2,6 +2,7 @@ pub mod Bools
 pub mod Tables
 pub mod CutLaws
 pub mod ZeroLaws
+pub mod CountLaws
 pub mod PutLaws
 pub mod PartLaws
 pub mod PutReads

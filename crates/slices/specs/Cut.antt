@@ -1,5 +1,5 @@
 -- Bytes cut at a byte: fields at commas, lines at newlines, a dictionary's entries at zero bytes.
-use Prim.Native.Nat.{ℕ}
+use Prim.Native.Nat.{ℕ, suc}
 use mathlib.Core.Bool.{Bool, true, false, _||_, cond}
 use mathlib.Core.List.{List, [], _∷_, _++_}
 use lib.Dec.{eqb}
@@ -11,6 +11,11 @@ use Rattle.slices.specs.declared.Found.the-variants.{At, Nowhere}
 abbrev pub has : ℕ → List ℕ → Bool
 has c [] = false
 has c (x ∷ xs) = eqb x c || has c xs
+
+-- how many of the bytes are c
+abbrev pub occurrences : ℕ → List ℕ → ℕ
+occurrences c [] = 0
+occurrences c (x ∷ xs) = cond (eqb x c) (suc (occurrences c xs)) (occurrences c xs)
 
 -- c is the first byte
 abbrev pub startsWith : ℕ → List ℕ → Bool
