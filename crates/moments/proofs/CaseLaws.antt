@@ -21,7 +21,7 @@ use Rattle.history.specs.Past.{Past, firstHeld, held, pastStep, pastAfter, fres
 use Rattle.history.specs.Demand2.{fresh, Timed, AllTimed}
 use Rattle.history.proofs.SoundLaws.{Sound, sound-step, sound-after, sound-fresh}
 use Rattle.history.proofs.Demand2.{Agrees, first-is, next-is, setting-is, agree-step, agree-after, agree-fresh}
-use Rattle.moments.specs.Case.{Outcome, outcomeOf, callOf, Calls, outcome, GivesFrom, Numbers, numbersOf, Left, leftBy, Leaves, leftOf, LeavesFrom, Change, stepOf, seenOf, changesBy, Changes}
+use Rattle.moments.specs.Case.{Outcome, outcomeOf, callOf, sightOf, Calls, outcome, GivesFrom, Numbers, numbersOf, Left, leftBy, Leaves, LeavesFrom, Change, stepOf, seenOf, changesBy, Changes}
 use Rattle.moments.proofs.LyingLaws.{Lying, lyingIn, lyingAfter, lies-after}
 
 -- ---- times of 64 bits, by a test
@@ -169,6 +169,10 @@ module _ (s : State) (p : Past) (a : Agrees s p) (ok : Sound p) where
       let o : s .log .offset ≡ p .marks .offset = ap (λ (m : Marks). m .offset) marks-are in
       rw (used-is (s .log) (s .buffer) (held p .records) (a .holds), first-is s p a ok, next-is s p a ok, c, n, o, setting-is s p a ok)
 
+same-left : {r q : List Reply} {m n : Numbers} {b c : List ℕ} → r ≡ q → m ≡ n → b ≡ c
+    → _≡_ {A = Left} (record { seen = r; numbers = m; buffer = b }) (record { seen = q; numbers = n; buffer = c })
+same-left er em eb = rw (er, em, eb)
+
 unfoldable pub pastLeft : Past → Lying → List Call → Left
 pastLeft p y cs =
     let end = lyingAfter p y cs in
@@ -184,18 +188,33 @@ agree-left cs s p a ok t =
     let buffer = ap (λ (y : Lying). y .buffer) lies in
     rw (seen, numbers, start, buffer)
 
--- whether a case's times are of 64 bits, and what is left over these bytes
-unfoldable pub sightLeft : Leaves → List ℕ → Bool × Left
-sightLeft l held =
-    let cs = map callOf (l .steps) in
-    (every isTimed cs, pastLeft (freshPast 1024) (record { start = 0; buffer = held }) cs)
+-- a case's calls, whether their times are of 64 bits, what the callers see, and the numbers that are left: of this no byte of
+-- the buffer is asked
+abbrev called-by : Leaves → List Call
+called-by l = map callOf (l .steps)
 
-pub on-any : (l : Leaves) → ((f : ℕ → ℕ) → sightLeft l (listed 1024 0 f) ≡ (true, leftOf l (listed 1024 0 f)))
+unfoldable pub sightLeft : Leaves → Bool × (List Reply × Numbers)
+sightLeft l =
+    let cs = called-by l in
+    (every isTimed cs, (pastOutcome (freshPast 1024) cs .seen, pastNumbers (pastAfter (freshPast 1024) cs) (l .numbers .start)))
+
+-- and where the log starts then, and what lies in the buffer
+unfoldable pub lyingLeft : Leaves → List ℕ → ℕ × List ℕ
+lyingLeft l held =
+    let end = lyingAfter (freshPast 1024) (record { start = 0; buffer = held }) (called-by l) in
+    (end .start, end .buffer)
+
+pub on-any : (l : Leaves) → sightLeft l ≡ (true, (map sightOf (l .steps), l .numbers))
+    → ((f : ℕ → ℕ) → lyingLeft l (listed 1024 0 f) ≡ (l .numbers .start, l .buffer (listed 1024 0 f)))
     → (held : List ℕ) → length held ≡ 1024 → LeavesFrom held l
-unfolding sightLeft fresh freshLog
-on-any l h held e =
+unfolding sightLeft lyingLeft pastLeft fresh freshLog
+on-any l told h held e =
     let named : listed 1024 0 (λ (i : ℕ). getD held i 0) ≡ held = rw e at (listed-is held 0 (λ (i : ℕ). getD held i 0) (λ i. rw zero-add)) in
-    let g : sightLeft l held ≡ (true, leftOf l held) = rw named at (h (λ (i : ℕ). getD held i 0)) in
+    let g : lyingLeft l held ≡ (l .numbers .start, l .buffer held) = rw named at (h (λ (i : ℕ). getD held i 0)) in
     let a : Agrees (fresh held) (freshPast 1024) = rw e at (agree-fresh held (omega arith) (omega arith)) in
-    let t = all-timed (map callOf (l .steps)) (ap (λ (x : Bool × Left). x .0) g) in
-    agree-left (map callOf (l .steps)) (fresh held) (freshPast 1024) a (sound-fresh 1024 (omega arith)) t ∙ ap (λ (x : Bool × Left). x .1) g
+    let t = all-timed (called-by l) (ap (λ (x : Bool × (List Reply × Numbers)). x .0) told) in
+    let start = ap (λ (x : ℕ × List ℕ). x .0) g in
+    let seen = ap (λ (x : Bool × (List Reply × Numbers)). x .1 .0) told in
+    let numbers = ap (pastNumbers (pastAfter (freshPast 1024) (called-by l))) start ∙ ap (λ (x : Bool × (List Reply × Numbers)). x .1 .1) told in
+    agree-left (called-by l) (fresh held) (freshPast 1024) a (sound-fresh 1024 (omega arith)) t
+    ∙ same-left seen numbers (ap (λ (x : ℕ × List ℕ). x .1) g)

@@ -7,7 +7,7 @@ use Rattle.record.specs.Dictionary.{isDictionary}
 use Rattle.record.specs.Record.{cost}
 use Rattle.record.specs.Heading.{headingOf, headingBytes, headingCost, headingFits, recordHeading, recordBytes}
 use Rattle.ring.specs.Ring.{unrolled, wrapped, ringPut}
-use Rattle.record.specs.Forms.{kmsgEntries, kmsgHeader, kmsgLine, syslogForm, syslogForms, syslogLength}
+use Rattle.record.specs.Forms.{kmsgEntries, kmsgHeader, kmsgLine, syslogHead, syslogLines, syslogForm, syslogForms}
 use Rattle.log.specs.View.{nextOf, recordAt}
 use Rattle.log.specs.Check.{numbersFit, dictionaryBytes, recordFits, after, recordOf, skipped, walked, recordsIn, offsetFits, finished, checked, marksOf, viewOf, withMarks, ruled}
 use Rattle.log.specs.Excess.{excess}
@@ -33,13 +33,14 @@ use Rattle.moments.specs.Pages.{pages, prefixes, from-box, seeks, goes-o
 use Rattle.moments.specs.Bytes.{stored, in-front, with-dictionary, only-marks, only-setting, text-over, start-over, heading-over, dictionary-over, just-full, full-goes-on, position-stays}
 use Rattle.moments.specs.Pairs.{together, eperm-before-einval, efault-between, eperm-alone}
 use Rattle.moments.specs.Console.{anthem, nothing-saved, twice, set-between, more-between, under-five, below-it, minimum-refused, without-privilege, levels}
+use Rattle.moments.specs.Lines.{sheets, five-texts, team-sheet, cut-lines, last-lines, longest-form}
 use Rattle.moments.specs.Claim.{Claim}
-use Rattle.moments.proofs.CaseLaws.{isTimed, pastOutcome, sight, on-fresh, pastChanges, changed, on-changes, listed, pastNumbers, pastLeft, sightLeft, on-any}
+use Rattle.moments.proofs.CaseLaws.{isTimed, pastOutcome, sight, on-fresh, pastChanges, changed, on-changes, listed, pastNumbers, sightLeft, lyingLeft, on-any}
 use Rattle.moments.proofs.LyingLaws.{laid, lyingWrite, lyingStep, lyingAfter}
 
 -- what the rows are computed by, named once for all tables; each table is a declaration, since the prover counts its steps by declaration
 unfoldable the-definitions : Unit {0}
-unfolding savedFits settingFits savedBy turnedOff restored turnedOn raised levelSet setTo minimumSet withMinimum minimumRuling minimumBy settingMinimum saveBy saving decimal value plainDecimal wellEscaped unescape isDictionary cost headingOf headingBytes headingCost headingFits recordHeading recordBytes unrolled wrapped ringPut kmsgEntries kmsgHeader kmsgLine syslogForm syslogForms syslogLength nextOf recordAt numbersFit dictionaryBytes recordFits after recordOf skipped walked recordsIn offsetFits finished checked marksOf viewOf withMarks ruled excess droppedBy keptBy writtenLog writtenBuffer hasPrefix prefixIn afterPrefix notKernel withoutNewline outsideRecord boxRecord outsideRuling boxRuling writeBy outsideWrite boxWrite lineAt readRuling readRefused readDone readBy kmsgReading seekRuling seekPlace seekBy seeking fromNumber fromOffset unreadRecords unread copied onward moved sinceClear lastOf commandRuling marksAfter given count commandBy commanding step stateAfter firstHeld held pastWrite pastStep pastAfter freshPast header fields field body lines text continuations dictionary isLong isUnended lacksHeader lacksNumber hasWrongByte hasWrongEntry isBulky refusal reading lineRefusal readLine fresh lacksRoom boardRefusal show deliver isTimed pastOutcome sight pastChanges changed listed pastNumbers pastLeft sightLeft laid lyingWrite lyingStep lyingAfter
+unfolding savedFits settingFits savedBy turnedOff restored turnedOn raised levelSet setTo minimumSet withMinimum minimumRuling minimumBy settingMinimum saveBy saving decimal value plainDecimal wellEscaped unescape isDictionary cost headingOf headingBytes headingCost headingFits recordHeading recordBytes unrolled wrapped ringPut kmsgEntries kmsgHeader kmsgLine syslogHead syslogLines syslogForm syslogForms nextOf recordAt numbersFit dictionaryBytes recordFits after recordOf skipped walked recordsIn offsetFits finished checked marksOf viewOf withMarks ruled excess droppedBy keptBy writtenLog writtenBuffer hasPrefix prefixIn afterPrefix notKernel withoutNewline outsideRecord boxRecord outsideRuling boxRuling writeBy outsideWrite boxWrite lineAt readRuling readRefused readDone readBy kmsgReading seekRuling seekPlace seekBy seeking fromNumber fromOffset unreadRecords unread copied onward moved sinceClear lastOf commandRuling marksAfter given count commandBy commanding step stateAfter firstHeld held pastWrite pastStep pastAfter freshPast header fields field body lines text continuations dictionary isLong isUnended lacksHeader lacksNumber hasWrongByte hasWrongEntry isBulky refusal reading lineRefusal readLine fresh lacksRoom boardRefusal show deliver isTimed pastOutcome sight pastChanges changed listed pastNumbers sightLeft lyingLeft laid lyingWrite lyingStep lyingAfter
 the-definitions = tt
 
 -- T1 to T16
@@ -129,17 +130,17 @@ pages-agree =
 stored-agree : AllAgree stored
 unfolding the-definitions
 stored-agree =
-    on-any in-front (λ f. refl)
-    and on-any with-dictionary (λ f. refl)
-    and on-any only-marks (λ f. refl)
-    and on-any only-setting (λ f. refl)
-    and on-any text-over (λ f. refl)
-    and on-any start-over (λ f. refl)
-    and on-any heading-over (λ f. refl)
-    and on-any dictionary-over (λ f. refl)
-    and on-any just-full (λ f. refl)
-    and on-any full-goes-on (λ f. refl)
-    and on-any position-stays (λ f. refl)
+    on-any in-front refl (λ f. refl)
+    and on-any with-dictionary refl (λ f. refl)
+    and on-any only-marks refl (λ f. refl)
+    and on-any only-setting refl (λ f. refl)
+    and on-any text-over refl (λ f. refl)
+    and on-any start-over refl (λ f. refl)
+    and on-any heading-over refl (λ f. refl)
+    and on-any dictionary-over refl (λ f. refl)
+    and on-any just-full refl (λ f. refl)
+    and on-any full-goes-on refl (λ f. refl)
+    and on-any position-stays refl (λ f. refl)
     and done
 
 pairs-agree : AllAgree together
@@ -181,6 +182,21 @@ levels-agree =
     and refl
     and done
 
+sheets-agree : AllAgree sheets
+unfolding the-definitions
+sheets-agree =
+    on-fresh five-texts refl
+    and on-fresh team-sheet refl
+    and on-fresh cut-lines refl
+    and on-fresh last-lines refl
+    and on-fresh longest-form refl
+    and refl
+    and refl
+    and refl
+    and refl
+    and refl
+    and done
+
 pub all-agree : Claim
 all-agree =
     record {
@@ -190,4 +206,5 @@ all-agree =
       bytes = stored-agree;
       pairs = pairs-agree;
       console = levels-agree;
+      syslog = sheets-agree;
     }

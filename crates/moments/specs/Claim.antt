@@ -6,6 +6,7 @@ use Rattle.moments.specs.Pages.{pages}
 use Rattle.moments.specs.Bytes.{stored}
 use Rattle.moments.specs.Pairs.{together}
 use Rattle.moments.specs.Console.{levels}
+use Rattle.moments.specs.Lines.{sheets}
 
 pub record Claim : Type 0 where
   -- T1 to T16
@@ -19,3 +20,5 @@ pub record Claim : Type 0 where
   pub pairs : AllAgree together
   -- the console level over off and on, and the minimum (document 02, ticket 4)
   pub console : AllAgree levels
+  -- each line of a text with its prefix (document 02, ticket 5)
+  pub syslog : AllAgree sheets

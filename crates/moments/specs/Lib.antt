@@ -5,4 +5,5 @@ pub mod Pages
 pub mod Bytes
 pub mod Pairs
 pub mod Console
+pub mod Lines
 pub mod Claim
