@@ -14,13 +14,16 @@ failed=0
 # lines MARK FILE: what stands behind this mark, with {61*3} written out as 616161
 lines() {
     awk -v mark="$1 " '
+        function often(bytes, count, half) {
+            if (count == 0) return ""
+            half = often(bytes, int(count / 2))
+            return half half (count % 2 ? bytes : "")
+        }
         index($0, mark) == 1 {
             line = substr($0, 3)
             while (match(line, /[{][0-9a-f]+[*][0-9]+[}]/)) {
                 split(substr(line, RSTART + 1, RLENGTH - 2), of, "*")
-                bytes = ""
-                for (i = 0; i < of[2]; i++) bytes = bytes of[1]
-                line = substr(line, 1, RSTART - 1) bytes substr(line, RSTART + RLENGTH)
+                line = substr(line, 1, RSTART - 1) often(of[1], of[2] + 0) substr(line, RSTART + RLENGTH)
             }
             print line
         }' "$2"

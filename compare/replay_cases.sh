@@ -42,7 +42,7 @@ hand() {
     held "$1"
 }
 
-# script SEED LINES [wide|trail|console], or script all console|levels
+# script SEED LINES [wide|trail|console|lines], or script all console|levels|bytes
 script() {
     "$second" script "$@" >"$room/in"
     "$second" answer <"$room/in" >"$room/want"
@@ -96,6 +96,10 @@ case_of 'off and on' 'log 1024 0\nnumbers\ncommand 8 4 1 0 0\ncommand 6 0 1 0 0\
 case_of 'ranges of the minimum' 'log 1024 0\nminimum 8\nminimum 0\nminimum 9\nminimum -1\nminimum 9223372036854775807\nminimum -9223372036854775808\nminimum 9223372036854775808\nminimum -9223372036854775809\nminimum\nminimum 5 5\nminimum -\nnumbers\n' 'log\n0\n-22\n-22\n-22\n-22\n-22\n?\n?\n?\n?\n?\n0 0 0 0 0 0 0 7 8 -\n'
 case_of 'levels by hand' 'log 1024 0\nnumber minimum 18446744073709551615\nnumber saved 9\nnumbers\nnumber minimum -\nnumber minimum 18446744073709551616\nnumber saved -1\nminimum 5\nnumber minimum 8\ncheck\nnumber saved -\ncheck\nnumbers\n' 'log\nset\nset\n0 0 0 0 0 0 0 7 18446744073709551615 9\n?\n?\n?\n-77\nset\nnumbers\nset\nfine\n0 0 0 0 0 0 0 7 8 -\n'
 
+# ---- lines of a text, each with its prefix
+case_of 'two lines' 'log 1024 0\nbox 1 4 0 610a -\ncommand 9 0 1 0 0\ncommand 2 7 1 0 7\nnumbers\ncommand 2 1 1 0 1\nnumbers\ncommand 3 3 1 0 3\ncommand 9 0 1 0 0\n' 'log\n2 0\n11 -\n7 3c31323e610a3c\n0 26 0 1 0 0 7 7 1 -\n1 31\n0 26 0 1 0 0 8 7 1 -\n3 323e0a\n3 -\n'
+case_of 'limits of the offset' 'log 1024 0\nnumber next 1\nnumber first 1\nnumber offset 6726\ncheck\nnumber offset 6727\ncheck\noutside 0 61\nnumber offset 0\nbox 255 7 0 0a -\nnumber position 1\nnumber offset 13\ncheck\nnumber offset 14\ncheck\n' 'log\nset\nset\nset\nfine\nset\nnumbers\n-77 0\nset\n1 0\nset\nset\nfine\nset\nnumbers\n'
+
 # ---- readers
 { echo 'log 1024 0'; for i in $(seq 17); do echo reader; done; printf 'where 15\nwhere 16\nlog 1024 0\nwhere 0\n'; } >"$room/in"
 { echo log; for i in $(seq 0 15); do echo "reader $i"; done; printf '?\n0\n?\nlog\n?\n'; } >"$room/want"
@@ -121,9 +125,13 @@ script 106 4000 trail
 script 107 4000 trail
 script 108 4000 console
 script 109 4000 console
+script 110 4000 lines
+script 111 4000 lines
 # every run of up to five of eight console calls, and each of those calls on every log with levels of 0 to 9
 script all console
 script all levels
+# small logs with texts of many lines, each read by command 2 byte by byte and then, made again, in one read
+script all bytes
 
 # ---- input that comes in pieces
 printf 'yes\nno\n' >"$room/want"

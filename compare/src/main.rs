@@ -16,8 +16,8 @@ use std::io::{self, BufWriter, ErrorKind, Write};
 use std::process::ExitCode;
 
 const USAGE: &str = "usage: compare answer
-       compare script SEED N [wide|trail|console]
-       compare script all console|levels";
+       compare script SEED N [wide|trail|console|lines]
+       compare script all console|levels|bytes";
 
 fn main() -> ExitCode {
     let words: Vec<String> = std::env::args().skip(1).collect();
@@ -27,10 +27,12 @@ fn main() -> ExitCode {
         ["answer"] => answer::replay(&mut io::stdin().lock(), &mut output),
         ["script", "all", "console"] => script::write_all_runs(&mut output),
         ["script", "all", "levels"] => script::write_all_levels(&mut output),
+        ["script", "all", "bytes"] => script::write_all_bytes(&mut output),
         ["script", seed, lines] => write_script(seed, lines, Kind::Plain, &mut output),
         ["script", seed, lines, "wide"] => write_script(seed, lines, Kind::Wide, &mut output),
         ["script", seed, lines, "trail"] => write_script(seed, lines, Kind::Trail, &mut output),
         ["script", seed, lines, "console"] => write_script(seed, lines, Kind::Console, &mut output),
+        ["script", seed, lines, "lines"] => write_script(seed, lines, Kind::Lines, &mut output),
         _ => Err(io::Error::new(ErrorKind::InvalidInput, USAGE)),
     };
     match done {

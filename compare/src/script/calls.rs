@@ -27,7 +27,7 @@ impl Script<'_> {
         let mut handed = self.prefix_spelling();
         let prefix = handed.len();
         let length = self.length();
-        handed.extend(self.bytes(length));
+        handed.extend(self.text(length));
         let tail = self
             .random
             .pick(&["", "", "", "\n", "\n", "\n\n", "\n\n\n", "\r\n"]);
@@ -53,7 +53,7 @@ impl Script<'_> {
             _ => None,
         };
         if let Some(total) = total {
-            handed.resize(total, b'.');
+            handed.resize(total, self.random.pick(b"...\n"));
             if self.random.chance(50) {
                 handed[total - 1] = b'\n';
             }
@@ -122,7 +122,8 @@ impl Script<'_> {
             _ => self.random.below(8),
         };
         let length = self.length();
-        let mut text = self.bytes(length);
+        let mut text = self.text(length);
+        let more = self.random.pick(b"!!!\n");
         let dictionary = match self.random.below(20) {
             0..=2 => self.random.pick(BAD).to_vec(),
             3..=5 => self.random.pick(GOOD).to_vec(),
@@ -134,12 +135,12 @@ impl Script<'_> {
                     0 => total,
                     _ => self.random.within(2, total as u64) as usize,
                 };
-                text.resize(total - share, b'!');
+                text.resize(total - share, more);
                 self.dictionary_of(share)
             }
             8 => {
                 let total = self.random.pick(&[BULK, BULK, BULK + 1, 1_500]);
-                text.resize(total, b'!');
+                text.resize(total, more);
                 Vec::new()
             }
             _ => {
@@ -274,16 +275,21 @@ impl Script<'_> {
 
     /// A command of this type with a length that means something to it.
     fn command_of(&mut self, kind: i32) {
-        let (all, edge) = match kind {
+        let (all, edge, stop) = match kind {
             2 | 9 => {
                 let all = self.log().unread().unwrap_or_default();
                 let edge = all.iter().position(|&b| b == b'\n').map_or(0, |p| p + 1);
-                (all.len() as i64, edge as i64)
+                (all.len() as i64, edge as i64, self.stop(&all) as i64)
             }
             _ => {
                 let all = self.log().uncleared().unwrap_or_default();
                 let last = all.iter().rev().skip(1).position(|&b| b == b'\n');
-                (all.len() as i64, last.map_or(all.len(), |p| p + 1) as i64)
+                let edge = last.map_or(all.len(), |p| p + 1);
+                (
+                    all.len() as i64,
+                    edge as i64,
+                    self.stop_from_end(&all) as i64,
+                )
             }
         };
         let part = self.random.below(all as u64 + 1) as i64;
@@ -312,7 +318,8 @@ impl Script<'_> {
             _ => match self.random.below(20) {
                 0 => 0,
                 1 => 1,
-                2..=7 => few,
+                2..=4 => few,
+                5..=7 => stop,
                 8 => edge - 1,
                 9 | 10 => edge,
                 11 => edge + 1,

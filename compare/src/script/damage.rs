@@ -2,10 +2,11 @@
 
 use super::Script;
 use crate::answer::hex;
+use crate::log::TOP_OFFSET;
 use crate::record::{Record, BULK, HEADING};
 
 /// What puts a change by hand right again.
-enum Repair {
+pub(super) enum Repair {
     Number(&'static str, String),
     Bytes(u64, Vec<u8>),
 }
@@ -62,16 +63,16 @@ impl Script<'_> {
             (Some(index), Some(records)) => records.get(index).map(Record::syslog_length),
             _ => None,
         };
-        let form = form.unwrap_or(967) as u64;
+        let form = form.map_or(TOP_OFFSET + 1, |length| length as u64);
         let any = self.random.below(100);
         let choices = match name {
-            "start" => [0, n.start, capacity, n.start.saturating_add(any)],
-            "used" => [0, n.used, capacity, n.used.saturating_add(any)],
-            "first" => [0, n.first, n.next, n.first.saturating_sub(any)],
-            "next" => [n.first, n.next, n.next, n.next.saturating_add(any)],
-            "clear" | "position" => [0, n.first, n.next, n.next.saturating_sub(any)],
-            "offset" => [form, form, 966, 0],
-            _ => [0, 1, 8, 255],
+            "start" => vec![0, n.start, capacity, n.start.saturating_add(any)],
+            "used" => vec![0, n.used, capacity, n.used.saturating_add(any)],
+            "first" => vec![0, n.first, n.next, n.first.saturating_sub(any)],
+            "next" => vec![n.first, n.next, n.next, n.next.saturating_add(any)],
+            "clear" | "position" => vec![0, n.first, n.next, n.next.saturating_sub(any)],
+            "offset" => vec![form, form, form, 966, TOP_OFFSET, 0],
+            _ => vec![0, 1, 8, 255],
         };
         let choice = self.random.pick(&choices);
         let value = match self.random.below(20) {
@@ -92,7 +93,7 @@ impl Script<'_> {
     }
 
     /// Puts bytes at a place of the ring, going on at its start.
-    fn poke_ring(&mut self, place: usize, bytes: &[u8], repairs: &mut Vec<Repair>) {
+    pub(super) fn poke_ring(&mut self, place: usize, bytes: &[u8], repairs: &mut Vec<Repair>) {
         let capacity = self.capacity() as usize;
         if capacity == 0 {
             self.say_hex("poke 0", bytes);
@@ -139,8 +140,8 @@ impl Script<'_> {
         let record = &held[index];
         let (text, dictionary) = (record.text.len(), record.dictionary.len());
         let kind = match dictionary {
-            0 => self.random.below(9),
-            _ => self.random.below(12),
+            0 => self.random.below(10),
+            _ => self.random.below(13),
         };
         let (at, bytes): (usize, Vec<u8>) = match kind {
             0 => {
@@ -198,6 +199,11 @@ impl Script<'_> {
                 let at = self.random.below(HEADING as u64) as usize;
                 let old = record.bytes()[at];
                 (at, vec![old ^ (1 << self.random.below(8))])
+            }
+            9 => {
+                // The text may then have a line more, or one less.
+                let at = self.random.below(text as u64) as usize;
+                (HEADING + at, vec![self.random.pick(b"\n\n\na")])
             }
             _ => {
                 let at = match self.random.below(4) {
@@ -337,15 +343,18 @@ impl Script<'_> {
         }
         let mut places = vec![
             (n.first.wrapping_sub(1), 967),
+            (n.first.wrapping_sub(1), TOP_OFFSET + 1),
             (n.first.wrapping_sub(1), 0),
             (n.next, 1),
             (n.next.wrapping_add(1), 1),
             (n.next.wrapping_add(2), 1),
         ];
-        for index in [0, held.len().saturating_sub(1), held.len() / 2] {
+        let parted = held.iter().position(|record| record.text.contains(&b'\n'));
+        let newest = held.len().saturating_sub(1);
+        for index in [0, newest, held.len() / 2, parted.unwrap_or(newest)] {
             if let Some(record) = held.get(index) {
                 places.push((record.sequence, record.syslog_length() as u64));
-                places.push((record.sequence, 967));
+                places.push((record.sequence, self.random.pick(&[967, TOP_OFFSET + 1])));
             }
         }
         for (position, offset) in places {
@@ -419,7 +428,7 @@ impl Script<'_> {
         self.say("check");
     }
 
-    fn put_right(&mut self, repairs: Vec<Repair>) {
+    pub(super) fn put_right(&mut self, repairs: Vec<Repair>) {
         for repair in repairs.into_iter().rev() {
             match repair {
                 Repair::Number(name, old) => self.say(format!("number {name} {old}")),
@@ -458,7 +467,7 @@ impl Script<'_> {
         let mut used = 0;
         for i in 0..most {
             let length = self.length();
-            let text = self.bytes(length);
+            let text = self.text(length);
             let dictionary = self.dictionary(BULK - length);
             let mut record = Record {
                 time: self.time(),
@@ -483,7 +492,7 @@ impl Script<'_> {
                 time: 1,
                 sequence: first + records.len() as u64,
                 prefix: 134,
-                text: self.bytes(length),
+                text: self.text(length),
                 dictionary: Vec::new(),
             };
             used += record.cost();
@@ -508,7 +517,7 @@ impl Script<'_> {
         let top = match held.map(|index| records.get(index)) {
             Some(Some(record)) => record.syslog_length() as u64 - 1,
             Some(None) => 0,
-            None => 966,
+            None => TOP_OFFSET,
         };
         let offset = match self.random.below(3) {
             0 => 0,

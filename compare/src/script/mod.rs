@@ -5,6 +5,7 @@
 mod calls;
 mod console;
 mod damage;
+mod lines;
 mod messages;
 mod trail;
 
@@ -15,6 +16,7 @@ use crate::record::Record;
 use std::io::{self, Write};
 
 pub use console::{write_all_levels, write_all_runs};
+pub use lines::write_all_bytes;
 
 /// What a script is made of.
 #[derive(Clone, Copy, PartialEq, Eq)]
@@ -27,6 +29,8 @@ pub enum Kind {
     Trail,
     /// The console's levels: runs of calls that move them, and levels by hand.
     Console,
+    /// Texts of many lines, and the commands that give them.
+    Lines,
 }
 
 /// Writes `lines` lines.
@@ -49,6 +53,7 @@ pub fn write_script(seed: u64, lines: u64, kind: Kind, output: &mut dyn Write) -
         match kind {
             Kind::Trail => script.trail_chapter(),
             Kind::Console => script.console_chapter(),
+            Kind::Lines => script.lines_chapter(),
             _ => script.chapter(),
         }
         if let Some(error) = script.failure.take() {
@@ -135,7 +140,7 @@ impl Script<'_> {
             }
             return;
         }
-        if kind == Kind::Console {
+        if matches!(kind, Kind::Console | Kind::Lines) {
             return;
         }
         for _ in 0..3 {
@@ -219,7 +224,7 @@ impl Script<'_> {
     }
 
     fn step(&mut self) {
-        match self.random.below(1_050) {
+        match self.random.below(1_095) {
             0..=199 => self.outside(),
             200..=309 => self.from_box(),
             310..=459 => self.read(),
@@ -240,7 +245,8 @@ impl Script<'_> {
             827..=836 => self.odd_line(),
             837..=999 => self.delivery(),
             1_000..=1_009 => self.trail_scene(),
-            _ => self.console_scene(),
+            1_010..=1_049 => self.console_scene(),
+            _ => self.lines_scene(),
         }
     }
 
@@ -287,6 +293,15 @@ impl Script<'_> {
                 _ => same,
             })
             .collect()
+    }
+
+    /// A text: bytes of one of those kinds, which often have lines.
+    fn text(&mut self, length: usize) -> Vec<u8> {
+        let mut text = self.bytes(length);
+        if self.random.chance(35) {
+            self.part(&mut text);
+        }
+        text
     }
 
     /// A dictionary that keeps the rules, of at most `most` bytes.

@@ -73,7 +73,12 @@ fn the_offset() {
     // Records 0 and 1 dropped: the log starts at the third.
     let dropped = ["number first 2", "number start 52", "number used 28"];
     after(&dropped, "fine");
-    for (offset, wanted) in [("966", "fine"), ("967", "numbers")] {
+    for (offset, wanted) in [
+        ("966", "fine"),
+        ("967", "fine"),
+        ("6726", "fine"),
+        ("6727", "numbers"),
+    ] {
         for position in ["0", "1"] {
             let mut changes = dropped.to_vec();
             let (position, offset) = (
@@ -176,6 +181,15 @@ fn the_order_of_the_tests() {
     after(&["poke 74 00", "number used 90"], "heading 2");
     after(&["poke 74 00", "number offset 9"], "heading 2");
     after(&["poke 74 00", "number offset 967"], "heading 2");
+    after(&["poke 74 00", "number offset 6727"], "heading 2");
+    // But not before the offset of a record that is dropped: only the third is held here.
+    let dropped = ["number first 2", "number start 52", "number used 28"];
+    for (offset, wanted) in [
+        ("number offset 6726", "heading 0"),
+        ("number offset 6727", "numbers"),
+    ] {
+        after(&[&dropped[..], &["poke 74 00", offset]].concat(), wanted);
+    }
 }
 
 #[test]

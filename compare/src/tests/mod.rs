@@ -1,8 +1,10 @@
-//! Cases with answers worked out by hand from document 01.
+//! Cases with answers worked out by hand from document 01, as document 02 amends it.
 
 mod check;
 mod console;
+mod lines;
 mod moments;
+mod reach;
 mod receiving;
 mod refusals;
 mod replay;

@@ -46,7 +46,7 @@ fn records_from_the_box_are_taken_as_they_come() {
     );
     let line = "3,0,1,-;x\\x0a\n a=1\n b=\\x5c\n";
     play.is("read 0 5000", &format!("{} 0 {}", line.len(), x(line)));
-    play.is("command 2 50 1 0 50", &format!("6 {}", x("<3>x\n\n")));
+    play.is("command 2 50 1 0 50", &format!("9 {}", x("<3>x\n<3>\n")));
     play.is("box 255 7 0 - -", "0 0");
     play.is("read 0 5000", &format!("12 0 {}", x("2047,1,0,-;\n")));
     for good in ["a=", "a==", "a=1\0b=2", " =\0 ="] {

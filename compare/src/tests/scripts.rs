@@ -5,7 +5,7 @@ use crate::log::walk;
 use crate::script::{write_script, Kind};
 use std::collections::BTreeSet;
 
-fn script_of(kind: Kind, seed: u64, lines: u64) -> Vec<u8> {
+pub(super) fn script_of(kind: Kind, seed: u64, lines: u64) -> Vec<u8> {
     let mut out = Vec::new();
     write_script(seed, lines, kind, &mut out).unwrap();
     out
