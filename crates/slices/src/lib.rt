@@ -127,14 +127,14 @@ pub fn next(s: &[u8], c: u8, from: usize) -> usize
     if s.len() <= from {
         return from;
     }
-    let mut at = past_strides(s, c, from);
-    while at < s.len() {
-        if s[at] == c {
-            return at;
+    let mut place = past_strides(s, c, from);
+    while place < s.len() {
+        if s[place] == c {
+            return place;
         }
-        at += 1;
+        place += 1;
     }
-    at
+    place
 }
 
 // The first n bytes: all, if there are fewer.

@@ -10,10 +10,10 @@ use Rattle.slices.proofs.next.Statement.{statement}
 use Rattle.slices.proofs.next.Tie as tie
 
 abbrev Inv-loop : tie.InvT-loop
-Inv-loop s c from at₀ at = Seeking s c (from + length (before c (drop from s))) at
+Inv-loop s c from place₀ place = Seeking s c (from + length (before c (drop from s))) place
 
 abbrev μ-loop : tie.MeasureT-loop
-μ-loop s c from at₀ at = length s - at
+μ-loop s c from place₀ place = length s - place
 
 returns : tie.Need-returns Inv-loop μ-loop
 returns c = rw (drop-of-length-le (c .before .before .args .s .now) (c .if1 .taken)) (sym (add-zero _))
@@ -30,8 +30,8 @@ shared-slice-read-if2 c = omega arith
 returns-2 : tie.Need-returns-2 Inv-loop μ-loop
 returns-2 c = seek-it (c .before .before .before .loop .inv) (omega arith) (c .if2 .taken)
 
-add-at : tie.Need-add-at Inv-loop μ-loop
-add-at c = omega arith
+add-place : tie.Need-add-place Inv-loop μ-loop
+add-place c = omega arith
 
 loop-less : tie.Need-loop-less Inv-loop μ-loop
 loop-less c = omega arith
@@ -53,7 +53,7 @@ next-spec =
     loop-holds
     shared-slice-read-if2
     returns-2
-    add-at
+    add-place
     loop-less
     loop-again
     returns-3)
