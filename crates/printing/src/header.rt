@@ -14,7 +14,7 @@ pub fn header(prefix: u64, sequence: u64, time: u64, out: &mut [u8], at: usize) 
         text: 0,
         dictionary: 0,
         prefix: (prefix % 2048) as u16,
-        flag: Heading::FLAG,
+        flag: Heading::PLAIN,
         zero: 0,
     };
     let none = b"";
