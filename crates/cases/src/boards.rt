@@ -1,8 +1,8 @@
 // The board: "board buffer not 7,680 or a slot's text length over 960".
 use crate::say;
 use board::Board;
-use board::Shown;
 use board::Slot;
+use channel::Newest as Shown;
 use record::Seq;
 
 // A board whose channel 23 shows number 9, with a text of this length.

@@ -17,12 +17,13 @@ use Rattle.number.specs.Decimal.{decimal}
 use Rattle.escape.specs.Escape.{kmsgBytes}
 use Rattle.record.specs.declared.Seq.{Seq}
 use Rattle.message.specs.Message.{Reading, reading}
+use Rattle.channel.specs.declared.Newest.{Newest as Shown}
+use Rattle.channel.specs.declared.Newest.the-variants.{Nothing as nothing, Record as recordOf}
+use Rattle.channel.proofs.ChannelLaws.{channel-below}
+use Rattle.channel.proofs.TextLaws.{other-text}
 use Rattle.board.specs.Board.{state, fresh, channels, slotSize, facilityFirst, emptySlot, lacksRoom, channel, boardRefusal, show, deliver}
-use Rattle.board.specs.declared.Shown.{Shown}
-use Rattle.board.specs.declared.Shown.the-variants.{Nothing as nothing, Record as recordOf}
 use Rattle.board.specs.declared.Slot.{Slot}
-use Rattle.board.proofs.SlotLaws.{slot-fits, other-text}
-use Rattle.board.proofs.DeliverLaws.{channel-below}
+use Rattle.board.proofs.SlotLaws.{slot-fits}
 use Rattle.board.proofs.TakenLaws.{Taken, taken, taken-fit, taken-text, taken-room}
 use Rattle.feed.specs.Feed.{inputMost, messages, fed, feedAll, shownText, lineOf, channelLine, channelLines, report, output}
 use Rattle.feed.specs.AnyBuffer.{AnyBuffer}

@@ -19,9 +19,9 @@ use Rattle.record.specs.Limits.{wordMost, prefixMost}
 use Rattle.header.specs.Header.{field, isNumber, lacksNumber}
 use Rattle.message.specs.Message.{text, dictionary, isBulky, reading}
 use Rattle.message.proofs.AcceptLaws.{Clear, clear}
+use Rattle.channel.specs.declared.Newest.{Newest as Shown}
+use Rattle.channel.specs.declared.Newest.the-variants.{Nothing as nothing, Record as recordOf}
 use Rattle.board.specs.Board.{State, channels, emptySlot, fresh, slot, slotSize, facilityFirst, slotFits, channel, boardRefusal, show, Delivered, deliver}
-use Rattle.board.specs.declared.Shown.{Shown}
-use Rattle.board.specs.declared.Shown.the-variants.{Nothing as nothing, Record as recordOf}
 use Rattle.board.specs.declared.Slot.{Slot}
 use Rattle.board.proofs.TakenLaws.{taken}
 use Rattle.feed.specs.Feed.{inputMost, messages, Fed, countRefused, feedAll, shownText, lineOf, channelLine, channelLines, report, output}

@@ -12,9 +12,9 @@ use Rattle.number.specs.Decimal.{decimal}
 use Rattle.escape.specs.Escape.{kmsgBytes}
 use Rattle.escape.specs.Answers.{kmsgLength}
 use Rattle.escape.specs.declared.Measured.the-variants.{Length, TooLong}
+use Rattle.channel.specs.declared.Newest.{Newest as Shown}
+use Rattle.channel.specs.declared.Newest.the-variants.{Nothing as nothing, Record as recordOf}
 use Rattle.board.specs.Board.{State, channels, facilityFirst, slot}
-use Rattle.board.specs.declared.Shown.{Shown}
-use Rattle.board.specs.declared.Shown.the-variants.{Nothing as nothing, Record as recordOf}
 use Rattle.record.specs.declared.Seq.{Seq}
 use Rattle.feed.specs.Feed.{shownText, lineOf, channelLine, channelLines}
 use Rattle.feed.specs.Printing.{measured, field, numberEnd, shownLine}

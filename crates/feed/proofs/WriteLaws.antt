@@ -97,12 +97,12 @@ module _ {out : List ℕ} {at : ℕ} where
 -- ---- a buffer that is filled by what is written
 
 module _ {out₀ : List ℕ} {at : ℕ} {all out : List ℕ} {k : ℕ} where
-  fill-written : (xs rest : List ℕ) {k′ : ℕ} {out′ : List ℕ} → Filling out₀ at all out k (xs ++ rest) → Written out k xs k′ out′
+  pub fill-written : (xs rest : List ℕ) {k′ : ℕ} {out′ : List ℕ} → Filling out₀ at all out k (xs ++ rest) → Written out k xs k′ out′
       → Filling out₀ at all out′ k′ rest
   fill-written xs rest f w =
       rw (w .place, w .buffer, ← sets-put out k xs (fill-fits-run xs rest f)) (fill-on-run xs rest f)
 
-  fill-done : Filling out₀ at all out k [] → Written out₀ at all k out
+  pub fill-done : Filling out₀ at all out k [] → Written out₀ at all k out
   fill-done f = record { place = omega (arith, f .place); buffer = fill-end f }
 
 -- ---- the lines of all channels

@@ -1,8 +1,8 @@
 // A feed of messages: grouped, delivered to a board, and printed. The receiver program is one call of it.
 use board::Answer;
 use board::Board;
-use board::Shown;
 use board::Slot;
+use channel::Newest as Shown;
 use escape::Measured;
 use slices::Placed;
 ghost use mathlib.Core.Path.{_≡_};
@@ -130,7 +130,7 @@ fn lines_length(slots: [Slot; Board::SLOTS], buffer: &[u8], most: usize) -> Meas
 }
 
 // A number and a byte behind it, put at a place where there is room for them; the place behind them.
-fn write_field(number: u64, end: u8, out: &mut [u8], at: usize) -> usize
+pub fn write_field(number: u64, end: u8, out: &mut [u8], at: usize) -> usize
     requires { ⌜ at + length (field number end) ≤ length (now out) ⌝ }
     ensures { λ r. ⌜ Written (now (out .entry)) at (field number end) r (now (out .exit)) ⌝ }
 {
@@ -174,7 +174,7 @@ fn write_lines(slots: [Slot; Board::SLOTS], buffer: &[u8], out: &mut [u8]) -> us
 }
 
 // How many messages were refused, put at a place where there is room for that line; the place behind it.
-fn write_refused(refused: u64, out: &mut [u8], at: usize) -> usize
+pub fn write_refused(refused: u64, out: &mut [u8], at: usize) -> usize
     requires { ⌜ at + length (refusedLine refused) ≤ length (now out) ⌝ }
     ensures { λ r. ⌜ Written (now (out .entry)) at (refusedLine refused) r (now (out .exit)) ⌝ }
 {
