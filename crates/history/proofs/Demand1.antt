@@ -153,7 +153,7 @@ unfolding step outsideWrite boxWrite reading seeking commanding saving settingMi
 demand-1 s (outside time bytes) n e =
     let f = fits-at e (write-left s _ _ _) in
     record { known = f .0; state = f .1; lent = λ k z. refl }
-demand-1 s (box facility level time text dictionary) n e =
+demand-1 s (box facility level time text dictionary fragment) n e =
     let f = fits-at e (write-left s _ _ _) in
     record { known = f .0; state = f .1; lent = λ k z. refl }
 demand-1 s make n e = absurd e

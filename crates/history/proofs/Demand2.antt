@@ -159,13 +159,13 @@ unfolding step pastStep outsideWrite boxWrite reading seeking commanding saving 
 agree-step s p (outside time bytes) a ok t =
     rw (ruled-is s p a ok (λ v. outsideRuling v bytes), ap (λ (n : ℕ). outsideRecord n time bytes) (next-is s p a ok))
     (write-step s p a ok (outsideRecord (nextNumber p) time bytes) (length bytes) (outsideRuling (held p) bytes) (outside-ready p ok time bytes t))
-agree-step s p (box facility level time text dictionary) a ok t =
+agree-step s p (box facility level time text dictionary fragment) a ok t =
     rw (
       ruled-is s p a ok (λ v. boxRuling v facility level text dictionary),
-      ap (λ (n : ℕ). boxRecord n time facility level text dictionary) (next-is s p a ok),
+      ap (λ (n : ℕ). boxRecord n time facility level text dictionary fragment) (next-is s p a ok),
     )
-    (write-step s p a ok (boxRecord (nextNumber p) time facility level text dictionary) (length text + length dictionary)
-    (boxRuling (held p) facility level text dictionary) (box-ready p ok facility level time text dictionary t))
+    (write-step s p a ok (boxRecord (nextNumber p) time facility level text dictionary fragment) (length text + length dictionary)
+    (boxRuling (held p) facility level text dictionary) (box-ready p ok facility level time text dictionary fragment t))
 agree-step s p make a ok t =
     let e = first-is s p a ok in
     (ap made e, agree-readers s p a ok _ _ (ap₂ (λ (l : List ℕ) (n : ℕ). l ++ (n ∷ [])) (a .readers) e))

@@ -43,9 +43,9 @@ unfolding pastStep
 drops-few p l (outside time bytes) =
     few-written p l (outsideRecord (nextNumber p) time bytes) (length bytes) (outsideRuling (held p) bytes)
     (outside-payload (held p) (nextNumber p) time bytes)
-drops-few p l (box facility level time text dictionary) =
-    few-written p l (boxRecord (nextNumber p) time facility level text dictionary) (length text + length dictionary)
-    (boxRuling (held p) facility level text dictionary) (box-payload (held p) (nextNumber p) facility level time text dictionary)
+drops-few p l (box facility level time text dictionary fragment) =
+    few-written p l (boxRecord (nextNumber p) time facility level text dictionary fragment) (length text + length dictionary)
+    (boxRuling (held p) facility level text dictionary) (box-payload (held p) (nextNumber p) facility level time text dictionary fragment)
 drops-few p l make = tt
 drops-few p l (place i n) = tt
 drops-few p l (read i lent) = few-there (ltb i (length (p .readers))) _ _ tt tt

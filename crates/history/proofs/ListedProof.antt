@@ -78,7 +78,7 @@ reader readers i = getD readers i 0
 abbrev test : Bool → View → List ℕ → Call → Refusal → Bool
 test bad v readers (outside time bytes) =
     row bad false false (ltb payloadMost (length bytes) || has 0 bytes) false (eqb (nextOf v) wordMost) false false
-test bad v readers (box facility level time text dictionary) =
+test bad v readers (box facility level time text dictionary fragment) =
     row bad false false
     (ltb facilityMost facility || (ltb levelMost level || (ltb payloadMost (length text + length dictionary) || not (isDictionary dictionary))))
     false (eqb (nextOf v) wordMost) false false
@@ -131,8 +131,8 @@ module _ (failing : Type 0) (bad : Bool) (bs : bad ≡ true → failing) (bc : f
       by-row (Row (outside time bytes)) (λ e. check-fails (bs e)) never never
       (λ e. elim (outside-says bytes .says e) [ inl h ↦ over-960 h | inr h ↦ zero-byte h ]) never
       (λ e. outside-at-last (eqb-true (nextOf v) wordMost e)) never never r q
-  sound (box facility level time text dictionary) r q =
-      by-row (Row (box facility level time text dictionary)) (λ e. check-fails (bs e)) never never
+  sound (box facility level time text dictionary fragment) r q =
+      by-row (Row (box facility level time text dictionary fragment)) (λ e. check-fails (bs e)) never never
       (λ e. elim (box-says facility level text dictionary .says e) [
         | inl h ↦ bad-facility h
         | inr h ↦ elim h [ inl k ↦ bad-level k | inr k ↦ elim k [ inl l ↦ over-960-together l | inr d ↦ bad-dictionary d ] ]
@@ -171,7 +171,7 @@ module _ (failing : Type 0) (bad : Bool) (bs : bad ≡ true → failing) (bc : f
   -- any call whose log check fails
   bad-first : (c : Call) → bad ≡ true → test bad v readers c EBADFD ≡ true
   bad-first (outside time bytes) e = e
-  bad-first (box facility level time text dictionary) e = e
+  bad-first (box facility level time text dictionary fragment) e = e
   bad-first make e = e
   bad-first (place i n) e = e
   bad-first (read i lent) e = above-read i .told (inl (bs e))
@@ -287,7 +287,7 @@ code (negsuc n) = n + 1
 
 pub rows-apart : (c : Call) (k : ℕ) → Numbered (order c) tableNumber (pos k)
 rows-apart (outside time bytes) k = numbered code table tableNumber (pos k) refl
-rows-apart (box facility level time text dictionary) k = numbered code table tableNumber (pos k) refl
+rows-apart (box facility level time text dictionary fragment) k = numbered code table tableNumber (pos k) refl
 rows-apart make k = numbered code table tableNumber (pos k) refl
 rows-apart (place i n) k = numbered code table tableNumber (pos k) refl
 rows-apart (read i lent) k = numbered code readTable tableNumber (pos k) refl
@@ -420,13 +420,13 @@ module _ (s : State) (failing : Type 0) (bs : isBad (checked (s .log) (s .buffer
             ∙ ruled-number (λ v. outsideRuling v bytes) (pos (length bytes))
             ∙ first-outside wrong (ltb payloadMost (length bytes)) (has 0 bytes) (eqb (nextOf view) wordMost) (pos (length bytes)));
       }
-  listed (box facility level time text dictionary) h =
+  listed (box facility level time text dictionary fragment) h =
       let k = length text + length dictionary in
       record {
-        answer = boxWrite (s .log) (s .buffer) facility level time text dictionary .answer;
+        answer = boxWrite (s .log) (s .buffer) facility level time text dictionary fragment .answer;
         answers = refl;
         exactly =
-            exact (box facility level time text dictionary) k _
+            exact (box facility level time text dictionary fragment) k _
             (write-number (s .log) (s .buffer) _ k _
             ∙ ruled-number (λ v. boxRuling v facility level text dictionary) (pos k)
             ∙ first-box wrong (ltb facilityMost facility) (ltb levelMost level) (ltb payloadMost k) (not (isDictionary dictionary)) (eqb (nextOf view) wordMost) (pos k));

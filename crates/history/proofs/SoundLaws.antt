@@ -67,12 +67,12 @@ module _ (p : Past) (s : Sound p) where
         last = below (outside-next (held p) (nextNumber p) time bytes e);
       }
 
-  pub box-ready : (facility level time : ℕ) (text dictionary : List ℕ) → time ≤ wordMost → boxRuling (held p) facility level text dictionary ≡ allowed
-      → Ready p (boxRecord (nextNumber p) time facility level text dictionary)
-  box-ready facility level time text dictionary t e =
+  pub box-ready : (facility level time : ℕ) (text dictionary : List ℕ) (fragment : Bool) → time ≤ wordMost → boxRuling (held p) facility level text dictionary ≡ allowed
+      → Ready p (boxRecord (nextNumber p) time facility level text dictionary fragment)
+  box-ready facility level time text dictionary fragment t e =
       record {
-        storable = box-storable (held p) (nextNumber p) facility level time text dictionary e t (s .word);
-        last = below (box-next (held p) (nextNumber p) facility level time text dictionary e);
+        storable = box-storable (held p) (nextNumber p) facility level time text dictionary fragment e t (s .word);
+        last = below (box-next (held p) (nextNumber p) facility level time text dictionary fragment e);
       }
 
   -- ---- writes
@@ -129,9 +129,9 @@ pub sound-step : (p : Past) (c : Call) → Sound p → Timed c → Sound (pastSt
 unfolding pastStep
 sound-step p (outside time bytes) s t =
     sound-write p s (outsideRecord (nextNumber p) time bytes) (length bytes) (outsideRuling (held p) bytes) (outside-ready p s time bytes t)
-sound-step p (box facility level time text dictionary) s t =
-    sound-write p s (boxRecord (nextNumber p) time facility level text dictionary) (length text + length dictionary)
-    (boxRuling (held p) facility level text dictionary) (box-ready p s facility level time text dictionary t)
+sound-step p (box facility level time text dictionary fragment) s t =
+    sound-write p s (boxRecord (nextNumber p) time facility level text dictionary fragment) (length text + length dictionary)
+    (boxRuling (held p) facility level text dictionary) (box-ready p s facility level time text dictionary fragment t)
 sound-step p make s t = sound-readers p s (p .readers ++ (firstHeld p ∷ []))
 sound-step p (place i n) s t = sound-readers p s (lib.ListN.set (p .readers) i n)
 sound-step p (read i lent) s t = sound-there p s (ltb i (length (p .readers))) _ _

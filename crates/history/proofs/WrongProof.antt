@@ -102,8 +102,8 @@ module _ (onWrite : View → List ℕ → Ruling) (onBox : View → ℕ → ℕ 
         ∙ written .answers
 
   module _ (text : List ℕ) (q : Ruling) (e : onBox (view n) 0 0 text [] ≡ q) where
-    abbrev boxed : At (box 0 0 0 text [])
-    boxed = f (empty n) (bytes-of n) (box 0 0 0 text []) tt
+    abbrev boxed : At (box 0 0 0 text [] false)
+    boxed = f (empty n) (bytes-of n) (box 0 0 0 text [] false) tt
 
     box-answers : numberBy (pos (length text + 0)) q ≡ boxed .answer
     box-answers =
@@ -178,7 +178,7 @@ byte-refused = taken-refused long oneByteMore (rw (next-is 0)) long-over
 zero-refused : AsListed (ruledBy zeroTaken boxRuling commandRuling) → ⊥
 zero-refused = taken-refused (0 ∷ []) zeroTaken (rw (next-is 0)) (zero-byte (inl refl))
 
-box-right : {failing : Type 0} {v : View} {readers : List ℕ} → Applies failing v readers (box 0 0 0 (0 ∷ []) []) EINVAL → ⊥
+box-right : {failing : Type 0} {v : View} {readers : List ℕ} → Applies failing v readers (box 0 0 0 (0 ∷ []) [] false) EINVAL → ⊥
 box-right h = elim h [
   | over-960-together g ↦ absurd (omega arith)
   | bad-facility g ↦ absurd (omega arith)
@@ -265,7 +265,7 @@ nine-refused f =
 ours : (s : State) (c : Call) → ruledBy outsideRuling boxRuling commandRuling s c ≡ answered s c
 unfolding step outsideWrite boxWrite commanding
 ours s (outside time bytes) = refl
-ours s (box facility level time text dictionary) = refl
+ours s (box facility level time text dictionary fragment) = refl
 ours s make = refl
 ours s (place i n) = refl
 ours s (read i lent) = refl
@@ -279,7 +279,7 @@ ours s (console level setting) = refl
 ours-saving : (s : State) (c : Call) → savesBy saveRuling s c ≡ answered s c
 unfolding step saving
 ours-saving s (outside time bytes) = refl
-ours-saving s (box facility level time text dictionary) = refl
+ours-saving s (box facility level time text dictionary fragment) = refl
 ours-saving s make = refl
 ours-saving s (place i n) = refl
 ours-saving s (read i lent) = refl
@@ -293,7 +293,7 @@ ours-saving s (console level setting) = refl
 ours-minimum : (s : State) (c : Call) → minimumRuledBy minimumRuling s c ≡ answered s c
 unfolding step settingMinimum
 ours-minimum s (outside time bytes) = refl
-ours-minimum s (box facility level time text dictionary) = refl
+ours-minimum s (box facility level time text dictionary fragment) = refl
 ours-minimum s make = refl
 ours-minimum s (place i n) = refl
 ours-minimum s (read i lent) = refl

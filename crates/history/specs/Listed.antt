@@ -4,7 +4,7 @@
 use Prim.Native.Nat.{ℕ, _+_, _-_, _*_, _^_, _<_, _≤_}
 use mathlib.Core.Path.{_≡_}
 use mathlib.Core.Logic.{_⊎_}
-use mathlib.Core.Bool.{true, false}
+use mathlib.Core.Bool.{Bool, true, false}
 use mathlib.Core.List.{List, [], _∷_}
 use lib.IntN.{ℤ, pos, negsuc}
 use lib.ListN.{length, getD}
@@ -60,17 +60,17 @@ pub data Applies (fails : Type 0) (v : View) (readers : List ℕ) : Call → Ref
   minimum-outside : {wanted : ℤ} → ((n : ℕ) → 1 ≤ n → n ≤ 8 → wanted ≡ pos n → ⊥) → Applies fails v readers (minimum wanted) EINVAL
   -- over 960 bytes;
   over-960 : {time : ℕ} {bytes : List ℕ} → 960 < length bytes → Applies fails v readers (outside time bytes) EINVAL
-  over-960-together : {facility level time : ℕ} {text dictionary : List ℕ} → 960 < length text + length dictionary
-      → Applies fails v readers (box facility level time text dictionary) EINVAL
+  over-960-together : {facility level time : ℕ} {text dictionary : List ℕ} {fragment : Bool} → 960 < length text + length dictionary
+      → Applies fails v readers (box facility level time text dictionary fragment) EINVAL
   -- a zero byte among the bytes handed in from outside (document 02, ticket 1);
   zero-byte : {time : ℕ} {bytes : List ℕ} → In 0 bytes → Applies fails v readers (outside time bytes) EINVAL
   -- bad facility, level or dictionary;
-  bad-facility : {facility level time : ℕ} {text dictionary : List ℕ} → 255 < facility
-      → Applies fails v readers (box facility level time text dictionary) EINVAL
-  bad-level : {facility level time : ℕ} {text dictionary : List ℕ} → 7 < level
-      → Applies fails v readers (box facility level time text dictionary) EINVAL
-  bad-dictionary : {facility level time : ℕ} {text dictionary : List ℕ} → (Dictionary dictionary → ⊥)
-      → Applies fails v readers (box facility level time text dictionary) EINVAL
+  bad-facility : {facility level time : ℕ} {text dictionary : List ℕ} {fragment : Bool} → 255 < facility
+      → Applies fails v readers (box facility level time text dictionary fragment) EINVAL
+  bad-level : {facility level time : ℕ} {text dictionary : List ℕ} {fragment : Bool} → 7 < level
+      → Applies fails v readers (box facility level time text dictionary fragment) EINVAL
+  bad-dictionary : {facility level time : ℕ} {text dictionary : List ℕ} {fragment : Bool} → (Dictionary dictionary → ⊥)
+      → Applies fails v readers (box facility level time text dictionary fragment) EINVAL
   -- line longer than reader's buffer
   line-longer : {i : ℕ} {lent : List ℕ} → length lent < length (kmsgLine (recordAt v (getD readers i 0)))
       → Applies fails v readers (read i lent) EINVAL
@@ -83,8 +83,8 @@ pub data Applies (fails : Type 0) (v : View) (readers : List ℕ) : Call → Ref
       → Applies fails v readers (save number lent) EFAULT
   -- -75 EOVERFLOW: write when next is 2^64 - 1
   outside-at-last : {time : ℕ} {bytes : List ℕ} → nextOf v ≡ 2 ^ 64 - 1 → Applies fails v readers (outside time bytes) EOVERFLOW
-  box-at-last : {facility level time : ℕ} {text dictionary : List ℕ} → nextOf v ≡ 2 ^ 64 - 1
-      → Applies fails v readers (box facility level time text dictionary) EOVERFLOW
+  box-at-last : {facility level time : ℕ} {text dictionary : List ℕ} {fragment : Bool} → nextOf v ≡ 2 ^ 64 - 1
+      → Applies fails v readers (box facility level time text dictionary fragment) EOVERFLOW
   -- -32 EPIPE: reader's number below first
   below-first : {i : ℕ} {lent : List ℕ} → getD readers i 0 < v .first → Applies fails v readers (read i lent) EPIPE
   -- -11 EAGAIN: reader at next;
@@ -101,7 +101,7 @@ readTable = EBADFD ∷ EPERM ∷ ESPIPE ∷ EFAULT ∷ EOVERFLOW ∷ EPIPE ∷ E
 
 abbrev pub order : Call → List Refusal
 order (outside time bytes) = table
-order (box facility level time text dictionary) = table
+order (box facility level time text dictionary fragment) = table
 order make = table
 order (place i n) = table
 order (read i lent) = readTable
@@ -117,7 +117,7 @@ order (console level setting) = table
 -- the calls that answer a number, by a reader that there is
 abbrev pub Asking : List ℕ → Call → Type 0
 Asking readers (outside time bytes) = Unit {0}
-Asking readers (box facility level time text dictionary) = Unit {0}
+Asking readers (box facility level time text dictionary fragment) = Unit {0}
 Asking readers make = ⊥
 Asking readers (place i n) = ⊥
 Asking readers (read i lent) = i < length readers

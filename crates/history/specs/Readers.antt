@@ -58,7 +58,7 @@ replyHeard nobody = []
 -- what reader i hears of a call
 abbrev pub callHeard : ℕ → Call → Reply → List Heard
 callHeard i (outside time bytes) r = []
-callHeard i (box facility level time text dictionary) r = []
+callHeard i (box facility level time text dictionary fragment) r = []
 callHeard i make r = []
 callHeard i (place j n) r = []
 callHeard i (read j lent) r = cond (eqb j i) (replyHeard r) []
@@ -77,7 +77,7 @@ heard i (c ∷ cs) (r ∷ rs) = callHeard i c r ++ heard i cs rs
 -- no seek of reader i, and its number is not set by hand
 abbrev pub Leaves : ℕ → Call → Type 0
 Leaves i (outside time bytes) = Unit {0}
-Leaves i (box facility level time text dictionary) = Unit {0}
+Leaves i (box facility level time text dictionary fragment) = Unit {0}
 Leaves i make = Unit {0}
 Leaves i (place j n) = i ≡ j → ⊥
 Leaves i (read j lent) = Unit {0}
@@ -113,7 +113,7 @@ NumberedInOrder = (capacity : ℕ) → capacityLeast ≤ capacity → (cs : List
 
 abbrev pub OnlyReads : ℕ → Call → Type 0
 OnlyReads i (outside time bytes) = Unit {0}
-OnlyReads i (box facility level time text dictionary) = Unit {0}
+OnlyReads i (box facility level time text dictionary fragment) = Unit {0}
 OnlyReads i make = Unit {0}
 OnlyReads i (place j n) = i ≡ j → ⊥
 OnlyReads i (read j lent) = i ≡ j → ⊥

@@ -27,9 +27,9 @@ ruledBy onWrite onBox onCommand s (outside time bytes) =
     afterWrite (s .readers)
     (writeBy (s .log) (s .buffer) (outsideRecord (s .log .next .0) time bytes) (length bytes) (ruled (s .log) (s .buffer) (λ v. onWrite v bytes)))
     .reply
-ruledBy onWrite onBox onCommand s (box facility level time text dictionary) =
+ruledBy onWrite onBox onCommand s (box facility level time text dictionary fragment) =
     afterWrite (s .readers)
-    (writeBy (s .log) (s .buffer) (boxRecord (s .log .next .0) time facility level text dictionary) (length text + length dictionary)
+    (writeBy (s .log) (s .buffer) (boxRecord (s .log .next .0) time facility level text dictionary fragment) (length text + length dictionary)
     (ruled (s .log) (s .buffer) (λ v. onBox v facility level text dictionary)))
     .reply
 ruledBy onWrite onBox onCommand s make = answered s make
@@ -80,7 +80,7 @@ invalidFirst v a lent =
 -- our log, but for the ruling on saving
 abbrev pub savesBy : (View → ℕ → List ℕ → Ruling) → State → Call → Reply
 savesBy onSave s (outside time bytes) = answered s (outside time bytes)
-savesBy onSave s (box facility level time text dictionary) = answered s (box facility level time text dictionary)
+savesBy onSave s (box facility level time text dictionary fragment) = answered s (box facility level time text dictionary fragment)
 savesBy onSave s make = answered s make
 savesBy onSave s (place i n) = answered s (place i n)
 savesBy onSave s (read i lent) = answered s (read i lent)
@@ -99,7 +99,7 @@ anyBuffer v number lent = allowed
 -- our log, but for the ruling on the minimum
 abbrev pub minimumRuledBy : (ℤ → Ruling) → State → Call → Reply
 minimumRuledBy onMinimum s (outside time bytes) = answered s (outside time bytes)
-minimumRuledBy onMinimum s (box facility level time text dictionary) = answered s (box facility level time text dictionary)
+minimumRuledBy onMinimum s (box facility level time text dictionary fragment) = answered s (box facility level time text dictionary fragment)
 minimumRuledBy onMinimum s make = answered s make
 minimumRuledBy onMinimum s (place i n) = answered s (place i n)
 minimumRuledBy onMinimum s (read i lent) = answered s (read i lent)

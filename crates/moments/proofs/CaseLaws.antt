@@ -28,7 +28,7 @@ use Rattle.moments.proofs.LyingLaws.{Lying, lyingIn, lyingAfter, lies-a
 
 unfoldable pub isTimed : Call → Bool
 isTimed (outside time bytes) = leb time wordMost
-isTimed (box facility level time text dictionary) = leb time wordMost
+isTimed (box facility level time text dictionary fragment) = leb time wordMost
 isTimed make = true
 isTimed (place i n) = true
 isTimed (read i lent) = true
@@ -42,7 +42,7 @@ isTimed (console level setting) = true
 timed : (c : Call) → isTimed c ≡ true → Timed c
 unfolding isTimed
 timed (outside time bytes) e = leb-true time wordMost e
-timed (box facility level time text dictionary) e = leb-true time wordMost e
+timed (box facility level time text dictionary fragment) e = leb-true time wordMost e
 timed make e = tt
 timed (place i n) e = tt
 timed (read i lent) e = tt

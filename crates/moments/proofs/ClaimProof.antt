@@ -34,6 +34,7 @@ use Rattle.moments.specs.Bytes.{stored, in-front, with-dictionary, only-
 use Rattle.moments.specs.Pairs.{together, eperm-before-einval, efault-between, eperm-alone}
 use Rattle.moments.specs.Console.{anthem, nothing-saved, twice, set-between, more-between, under-five, below-it, minimum-refused, without-privilege, levels}
 use Rattle.moments.specs.Lines.{sheets, five-texts, team-sheet, cut-lines, last-lines, longest-form}
+use Rattle.moments.specs.Fragments.{fragments, in-pieces, fragments-refused, flag-stored}
 use Rattle.moments.specs.Claim.{Claim}
 use Rattle.moments.proofs.CaseLaws.{isTimed, pastOutcome, sight, on-fresh, pastChanges, changed, on-changes, listed, pastNumbers, sightLeft, lyingLeft, on-any}
 use Rattle.moments.proofs.LyingLaws.{laid, lyingWrite, lyingStep, lyingAfter}
@@ -197,6 +198,19 @@ sheets-agree =
     and refl
     and done
 
+fragments-agree : AllAgree fragments
+unfolding the-definitions
+fragments-agree =
+    on-fresh in-pieces refl
+    and on-fresh fragments-refused refl
+    and on-any flag-stored refl (λ f. refl)
+    and refl
+    and refl
+    and refl
+    and refl
+    and refl
+    and done
+
 pub all-agree : Claim
 all-agree =
     record {
@@ -207,4 +221,5 @@ all-agree =
       pairs = pairs-agree;
       console = levels-agree;
       syslog = sheets-agree;
+      flags = fragments-agree;
     }

@@ -87,8 +87,8 @@ lyingWrite v y r (refused why) = y
 
 unfoldable pub lyingStep : Past → Lying → Call → Lying
 lyingStep p y (outside time bytes) = lyingWrite (held p) y (outsideRecord (nextNumber p) time bytes) (outsideRuling (held p) bytes)
-lyingStep p y (box facility level time text dictionary) =
-    lyingWrite (held p) y (boxRecord (nextNumber p) time facility level text dictionary)
+lyingStep p y (box facility level time text dictionary fragment) =
+    lyingWrite (held p) y (boxRecord (nextNumber p) time facility level text dictionary fragment)
     (boxRuling (held p) facility level text dictionary)
 lyingStep p y make = y
 lyingStep p y (place i n) = y
@@ -162,13 +162,13 @@ unfolding step lyingStep outsideWrite boxWrite commanding settingMinimum withMar
 lies-step s p (outside time bytes) a ok t =
     rw (ruled-is s p a ok (λ v. outsideRuling v bytes), ap (λ (n : ℕ). outsideRecord n time bytes) (next-is s p a ok))
     (lies-write s p a ok (outsideRecord (nextNumber p) time bytes) (length bytes) (outsideRuling (held p) bytes) (outside-ready p ok time bytes t))
-lies-step s p (box facility level time text dictionary) a ok t =
+lies-step s p (box facility level time text dictionary fragment) a ok t =
     rw (
       ruled-is s p a ok (λ v. boxRuling v facility level text dictionary),
-      ap (λ (n : ℕ). boxRecord n time facility level text dictionary) (next-is s p a ok),
+      ap (λ (n : ℕ). boxRecord n time facility level text dictionary fragment) (next-is s p a ok),
     )
-    (lies-write s p a ok (boxRecord (nextNumber p) time facility level text dictionary) (length text + length dictionary)
-    (boxRuling (held p) facility level text dictionary) (box-ready p ok facility level time text dictionary t))
+    (lies-write s p a ok (boxRecord (nextNumber p) time facility level text dictionary fragment) (length text + length dictionary)
+    (boxRuling (held p) facility level text dictionary) (box-ready p ok facility level time text dictionary fragment t))
 lies-step s p make a ok t = refl
 lies-step s p (place i n) a ok t = refl
 lies-step s p (read i lent) a ok t = lies-either (ltb i (length (s .readers))) _ _ refl

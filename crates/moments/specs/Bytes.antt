@@ -6,8 +6,8 @@ use lib.IntN.{pos}
 use lib.ListN.{drop, replicate}
 use Rattle.slices.specs.Quoted.{quoted}
 use Rattle.console.specs.declared.Saved.the-variants.{Nothing, Level}
-use Rattle.history.specs.Calls.{outside, box, make, read, seek, minimum, wrote, made, gave, sought, told}
-use Rattle.moments.specs.Case.{Step, _gives_, Leaves, Case, leaves, minus, blank, asked}
+use Rattle.history.specs.Calls.{outside, make, read, seek, minimum, wrote, made, gave, sought, told}
+use Rattle.moments.specs.Case.{box, Step, _gives_, Leaves, Case, leaves, minus, blank, asked}
 
 -- 0x0102030405060708 and 0x1112131415161718 ns: no two bytes alike
 abbrev time₁ : ℕ

@@ -7,6 +7,7 @@ use Rattle.moments.specs.Bytes.{stored}
 use Rattle.moments.specs.Pairs.{together}
 use Rattle.moments.specs.Console.{levels}
 use Rattle.moments.specs.Lines.{sheets}
+use Rattle.moments.specs.Fragments.{fragments}
 
 pub record Claim : Type 0 where
   -- T1 to T16
@@ -22,3 +23,5 @@ pub record Claim : Type 0 where
   pub console : AllAgree levels
   -- each line of a text with its prefix (document 02, ticket 5)
   pub syslog : AllAgree sheets
+  -- writes that say they are fragments (document 02, ticket 6)
+  pub flags : AllAgree fragments

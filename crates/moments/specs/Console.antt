@@ -6,8 +6,8 @@ use lib.IntN.{ℤ, pos}
 use Rattle.console.specs.declared.Saved.{Saved}
 use Rattle.console.specs.declared.Saved.the-variants.{Nothing, Level}
 use Rattle.log.specs.declared.Verdict.the-variants.{Fine, Numbers}
-use Rattle.history.specs.Calls.{outside, box, read, seek, save, minimum, check, State, wrote, gave, sought, told, verdict}
-use Rattle.moments.specs.Case.{_gives_, hand, Calls, Change, change, setting, Case, calls, changes, minus, blank, asked, poor}
+use Rattle.history.specs.Calls.{outside, read, seek, save, minimum, check, State, wrote, gave, sought, told, verdict}
+use Rattle.moments.specs.Case.{box, _gives_, hand, Calls, Change, change, setting, Case, calls, changes, minus, blank, asked, poor}
 
 -- a command that is done, by type and len; then level, minimum and save
 abbrev done : ℕ → ℕ → ℕ → ℕ → Saved → Change

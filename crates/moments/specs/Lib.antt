@@ -6,4 +6,5 @@ pub mod Bytes
 pub mod Pairs
 pub mod Console
 pub mod Lines
+pub mod Fragments
 pub mod Claim

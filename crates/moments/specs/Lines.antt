@@ -7,8 +7,8 @@ use Rattle.slices.specs.Quoted.{quoted}
 use Rattle.console.specs.Console.{settingFresh}
 use Rattle.log.specs.declared.Verdict.{Verdict}
 use Rattle.log.specs.declared.Verdict.the-variants.{Fine, Numbers}
-use Rattle.history.specs.Calls.{outside, box, make, read, check, State, wrote, made, gave, told, verdict}
-use Rattle.moments.specs.Case.{_gives_, new, hand, Calls, callsOf, Case, calls, minus, blank, asked}
+use Rattle.history.specs.Calls.{outside, make, read, check, State, wrote, made, gave, told, verdict}
+use Rattle.moments.specs.Case.{box, _gives_, new, hand, Calls, callsOf, Case, calls, minus, blank, asked}
 
 -- "", newline, "a" newline, newline "a", two newlines: 6, 12, 13, 13 and 18 bytes
 abbrev pub five-texts : Calls

@@ -5,8 +5,8 @@ use mathlib.Core.List.{List, [], _∷_, _++_}
 use lib.IntN.{pos}
 use lib.ListN.{replicate}
 use Rattle.slices.specs.Quoted.{quoted}
-use Rattle.history.specs.Calls.{outside, box, make, read, seek, console, wrote, made, gave, sought, told, shown}
-use Rattle.moments.specs.Case.{_gives_, new, Calls, callsOf, Reads, shows, empty, Delivery, Case, calls, reads, delivers, minus, blank, asked}
+use Rattle.history.specs.Calls.{outside, make, read, seek, console, wrote, made, gave, sought, told, shown}
+use Rattle.moments.specs.Case.{box, _gives_, new, Calls, callsOf, Reads, shows, empty, Delivery, Case, calls, reads, delivers, minus, blank, asked}
 use Rattle.moments.specs.Table.{t11}
 
 -- prefixes at their limits: facility 0 becomes 1; one to four digits, and '>'

@@ -5,9 +5,9 @@ use mathlib.Core.List.{List, [], _∷_, _++_}
 use lib.IntN.{pos}
 use lib.ListN.{replicate}
 use Rattle.slices.specs.Quoted.{quoted}
-use Rattle.history.specs.Calls.{outside, box, place, read, seek, wrote, set, gave, sought, told}
+use Rattle.history.specs.Calls.{outside, place, read, seek, wrote, set, gave, sought, told}
 use Rattle.board.specs.Board.{fresh, state}
-use Rattle.moments.specs.Case.{_gives_, new, hand, Calls, dots, board₀, boardAfter, Pair, both, Case, calls, boardAnswers, linePairs, boardPairs, minus, blank, asked, unprivileged, poor}
+use Rattle.moments.specs.Case.{box, _gives_, new, hand, Calls, dots, board₀, boardAfter, Pair, both, Case, calls, boardAnswers, linePairs, boardPairs, minus, blank, asked, unprivileged, poor}
 use Rattle.moments.specs.Refusals.{byHand, last, board₁}
 
 -- ---- the log

@@ -9,10 +9,10 @@ use lib.ListN.{set as setAt}
 use Rattle.slices.specs.Quoted.{quoted}
 use Rattle.console.specs.declared.Saved.the-variants.{Nothing}
 use Rattle.log.specs.declared.Verdict.the-variants.{Fine, Numbers, Heading}
-use Rattle.history.specs.Calls.{outside, box, make, place, read, seek, command, check, State, wrote, made, set, gave, sought, told, verdict, nobody}
+use Rattle.history.specs.Calls.{outside, make, place, read, seek, command, check, State, wrote, made, set, gave, sought, told, verdict, nobody}
 use Rattle.board.specs.Board.{fresh, emptySlot, state}
 use Rattle.board.specs.Board.{State as Board}
-use Rattle.moments.specs.Case.{_gives_, new, hand, Calls, dots, shows, slotOf, board₀, boardAfter, Case, calls, lineAnswers, boardAnswers, minus, blank, asked, poor}
+use Rattle.moments.specs.Case.{box, _gives_, new, hand, Calls, dots, shows, slotOf, board₀, boardAfter, Case, calls, lineAnswers, boardAnswers, minus, blank, asked, poor}
 
 -- ---- when the log says no
 
