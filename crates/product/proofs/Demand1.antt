@@ -29,6 +29,11 @@ use Rattle.message.specs.Line.{line as lineLeft}
 use Rattle.board.specs.Board.{State, slot, hasChannel, channel, isLate, CHANNEL, LATE, boardRefusal, show, Delivered, deliver}
 use Rattle.board.specs.Board.{lacksRoom as lacksBoard}
 use Rattle.board.proofs.AnswerLaws.{refusal-most}
+use Rattle.joiner.specs.Joiner.{After, join, Closed, closed, close, Given}
+use Rattle.joiner.specs.Joiner.{State as JoinerState, after as joinAfter}
+use Rattle.joiner.specs.declared.Answer.{Answer as Joined}
+use Rattle.joiner.specs.declared.Answer.the-variants as joined-is
+use Rattle.joiner.proofs.AnswerLaws.{answer-known, refused-unchanged, close-known, close-unchanged}
 use Rattle.feed.specs.Feed.{inputMost, output, bufferAfter}
 use Rattle.feed.specs.Longest.{reportMost}
 use Rattle.feed.proofs.LongestLaws.{longest-report}
@@ -36,7 +41,7 @@ use Rattle.history.specs.Calls.{Reply, wrote, made, set, gave, sought, told, ve
 use Rattle.history.specs.Demand1.{Answers}
 use Rattle.history.specs.Demand1.{Known as InTable}
 use Rattle.history.proofs.Demand1.{demand-1}
-use Rattle.product.specs.Calls.{Box, Call, onLog, turnOff, turnOn, setLevel, setMinimum, line, delivery, receiver, trailNext, number, byReader, byBoard, printed, noRoom, other, replied, placedAt, trailTold, withLog, withConsole, withTrail, called, handed}
+use Rattle.product.specs.Calls.{Box, Call, onLog, turnOff, turnOn, setLevel, setMinimum, line, delivery, joining, closing, receiver, joinLines, trailNext, number, byReader, byBoard, printed, noRoom, other, replied, placedAt, joinTold, trailTold, withLog, withConsole, withBoard, withJoiner, withTrail, called, handed}
 use Rattle.product.specs.Demand1.{Known, Refuses, left, Demand1}
 
 -- ---- the log
@@ -150,6 +155,31 @@ board-left b m = go (eqb (boardRefusal b m) 0)
     go true f = absurd f
     go false f = refl
 
+told-known : (a : Joined) → Given a → Known (joinTold a)
+told-known joined-is.Nothing g = tt
+told-known (joined-is.One t) g = tt
+told-known (joined-is.Two t u) g = tt
+told-known (joined-is.Refused n) g = g
+
+-- an answer that refuses has its number
+told-refused : (a : Joined) → Refuses (joinTold a) → (n : ℕ) × (a ≡ joined-is.Refused n)
+told-refused joined-is.Nothing f = absurd f
+told-refused (joined-is.One t) f = absurd f
+told-refused (joined-is.Two t u) f = absurd f
+told-refused (joined-is.Refused n) f = (n, refl)
+
+join-left : (j : JoinerState) (m first second : List ℕ) → Refuses (joinTold (join j m first second .answer))
+    → (n : ℕ) × (join j m first second ≡ joinAfter (joined-is.Refused n) j first second)
+join-left j m first second f =
+    let t = told-refused (join j m first second .answer) f in
+    (t .0, refused-unchanged j m first second (t .0) (t .1))
+
+close-left : (j : JoinerState) (result : List ℕ) → Refuses (joinTold (close j result .answer))
+    → (n : ℕ) × (close j result ≡ closed (joined-is.Refused n) j result)
+close-left j result f =
+    let t = told-refused (close j result .answer) f in
+    (t .0, close-unchanged j result (t .0) (t .1) .1)
+
 module _ (input buffer out : List ℕ) where
   abbrev bytes : List ℕ
   bytes = output buffer input
@@ -231,7 +261,10 @@ known b (setLevel level) = level-known (isLevel level)
 known b (setMinimum level) = level-known (isLevel level)
 known b (line m result numbers) = line-known m result numbers
 known b (delivery m) = board-known (b .board) m
+known b (joining m first second) = told-known (join (b .joiner) m first second .answer) (answer-known (b .joiner) m first second)
+known b (closing result) = told-known (close (b .joiner) result .answer) (close-known (b .joiner) result)
 known b (receiver input buffer out) = out-known input buffer out
+known b (joinLines input texts out) = tt
 known b (trailNext file result) = trail-known (b .trail) file result
 
 box : (b : Box) (c : Call) → Refuses (called b c .answer) → called b c .box ≡ left b c (called b c .answer)
@@ -244,8 +277,11 @@ box b turnOn f = absurd f
 box b (setLevel level) f = ap (withConsole b) (set-left (b .console) level f)
 box b (setMinimum level) f = ap (withConsole b) (minimum-left (b .console) level f)
 box b (line m result numbers) f = refl
-box b (delivery m) f = ap (λ (x : State). record { log = b .log; console = b .console; board = x; trail = b .trail }) (board-left (b .board) m f)
+box b (delivery m) f = ap (withBoard b) (board-left (b .board) m f)
+box b (joining m first second) f = let l = join-left (b .joiner) m first second f in ap (λ (a : After). withJoiner b (a .joiner)) (l .1)
+box b (closing result) f = let l = close-left (b .joiner) result f in ap (λ (c : Closed). withJoiner b (c .joiner)) (l .1)
 box b (receiver input buffer out) f = refl
+box b (joinLines input texts out) f = refl
 box b (trailNext file result) f = ap (withTrail b) (trail-left (b .trail) file result f .0)
 
 lent : (b : Box) (c : Call) → Refuses (called b c .answer) → called b c .lent ≡ handed c
@@ -258,7 +294,10 @@ lent b (setLevel level) f = refl
 lent b (setMinimum level) f = refl
 lent b (line m result numbers) f = let l = line-left m result numbers f in ap₂ (λ (x y : List ℕ). x ∷ y ∷ []) (l .0) (l .1)
 lent b (delivery m) f = refl
+lent b (joining m first second) f = let l = join-left (b .joiner) m first second f in ap (λ (a : After). a .first ∷ a .second ∷ []) (l .1)
+lent b (closing result) f = let l = close-left (b .joiner) result f in ap (λ (c : Closed). c .result ∷ []) (l .1)
 lent b (receiver input buffer out) f = let l = out-left input buffer out f in ap₂ (λ (x y : List ℕ). x ∷ y ∷ []) (l .0) (l .1)
+lent b (joinLines input texts out) f = absurd f
 lent b (trailNext file result) f = ap (λ (x : List ℕ). x ∷ []) (trail-left (b .trail) file result f .1)
 
 pub product-demand-1 : Demand1

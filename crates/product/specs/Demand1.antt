@@ -1,4 +1,4 @@
--- Demand 1, as one statement: over every call of the product, any log, board, console setting and trail reader, and any buffers, bytes and numbers, every answer
+-- Demand 1, as one statement: over every call of the product, any log, board, joiner, console setting and trail reader, and any buffers, bytes and numbers, every answer
 -- is a count or a number of document 01's tables, and a refusal leaves everything as it was; one thing may move: a reader told -32 is set to
 -- the oldest record left.
 use Prim.Native.Nat.{ℕ, zero, suc, _≤_}
@@ -14,13 +14,14 @@ use Rattle.feed.specs.Feed.{output}
 use Rattle.feed.specs.Longest.{reportMost}
 use Rattle.history.specs.Demand1.{leftBy}
 use Rattle.history.specs.Demand1.{Known as InTable}
-use Rattle.product.specs.Calls.{Box, Call, onLog, turnOff, turnOn, setLevel, setMinimum, line, delivery, receiver, trailNext, Answer, number, byReader, byBoard, printed, noRoom, other, withLog, called, handed}
+use Rattle.product.specs.Calls.{Box, Call, onLog, turnOff, turnOn, setLevel, setMinimum, line, delivery, joining, closing, receiver, joinLines, trailNext, Answer, number, byReader, byBoard, byJoiner, printed, noRoom, other, withLog, called, handed}
 
--- a count, or a number of the tables: -77 .. -11 of the log, 1 to 8 of the line reader, 1 to 10 of the board
+-- a count, or a number of the tables: -77 .. -11 of the log, 1 to 8 of the line reader, 1 to 10 of the board and of the joiner
 abbrev pub Known : Answer → Type 0
 Known (number n) = InTable n
 Known (byReader n) = n ≤ BULK
 Known (byBoard n) = n ≤ LATE
+Known (byJoiner n) = (1 ≤ n) × (n ≤ LATE)
 Known (printed n) = Unit {0}
 Known noRoom = Unit {0}
 Known other = Unit {0}
@@ -33,6 +34,7 @@ Refuses (byReader zero) = ⊥
 Refuses (byReader (suc n)) = Unit {0}
 Refuses (byBoard zero) = ⊥
 Refuses (byBoard (suc n)) = Unit {0}
+Refuses (byJoiner n) = Unit {0}
 Refuses (printed n) = ⊥
 Refuses noRoom = Unit {0}
 Refuses other = ⊥
@@ -42,6 +44,7 @@ abbrev pub left : Box → Call → Answer → Box
 left b (onLog c) (number n) = withLog b (leftBy (b .log) c n)
 left b (onLog c) (byReader n) = b
 left b (onLog c) (byBoard n) = b
+left b (onLog c) (byJoiner n) = b
 left b (onLog c) (printed n) = b
 left b (onLog c) noRoom = b
 left b (onLog c) other = b
@@ -51,7 +54,10 @@ left b (setLevel level) a = b
 left b (setMinimum level) a = b
 left b (line m result numbers) a = b
 left b (delivery m) a = b
+left b (joining m first second) a = b
+left b (closing result) a = b
 left b (receiver input buffer out) a = b
+left b (joinLines input texts out) a = b
 left b (trailNext file result) a = b
 
 pub record Demand1 : Type 0 where
