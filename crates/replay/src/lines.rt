@@ -2,6 +2,8 @@
 use crate::board_calls;
 use crate::board_calls::Slots;
 use crate::command_calls;
+use crate::joiner_calls;
+use crate::joiner_calls::Texts;
 use crate::log_calls;
 use crate::log_calls::Buffer;
 use crate::reader_calls;
@@ -60,6 +62,7 @@ fn call(
     bytes: &Bytes,
     buffer: &mut Buffer,
     slots: &mut Slots,
+    texts: &mut Texts,
     image: &mut Disk,
     file: &mut Disk,
     space: &mut Space,
@@ -67,9 +70,11 @@ fn call(
     let family = words.family;
     match family {
         b'b' => board_calls::call(state, words, bytes, slots, space),
+        b'j' => joiner_calls::call(state, words, bytes, texts, space),
         b'q' => renderer_calls::call(state, words, bytes, space),
         b'f' => log_calls::fresh(state, words, buffer),
         b'g' => board_calls::fresh(state, words, slots),
+        b'k' => joiner_calls::fresh(state, words, texts),
         b'd' => trail_calls::fresh(state, words, file),
         b't' => trail_calls::call(state, words, bytes, image, file, space),
         _ => on_log(state, words, bytes, buffer, image, space),
@@ -83,6 +88,7 @@ fn answer_line(
     bytes: &mut Bytes,
     buffer: &mut Buffer,
     slots: &mut Slots,
+    texts: &mut Texts,
     image: &mut Disk,
     file: &mut Disk,
     space: &mut Space,
@@ -92,7 +98,17 @@ fn answer_line(
         return state;
     };
     lent::prepare(space, words.lent);
-    let called = call(state, words, bytes, buffer, slots, image, file, space);
+    let called = call(
+        state,
+        words,
+        bytes,
+        buffer,
+        slots,
+        texts,
+        image,
+        file,
+        space,
+    );
     let told = called.told;
     answers::print(words, told, space);
     called.state
@@ -105,6 +121,7 @@ pub fn run(
     bytes: &mut Bytes,
     buffer: &mut Buffer,
     slots: &mut Slots,
+    texts: &mut Texts,
     image: &mut Disk,
     file: &mut Disk,
     space: &mut Space,
@@ -120,7 +137,17 @@ pub fn run(
             return;
         }
         let whole = input::bytes_of(line, taken.length);
-        state = answer_line(state, whole, bytes, buffer, slots, image, file, space);
+        state = answer_line(
+            state,
+            whole,
+            bytes,
+            buffer,
+            slots,
+            texts,
+            image,
+            file,
+            space,
+        );
         if taken.ended {
             return;
         }

@@ -1,5 +1,6 @@
 // What a rehearsal keeps from line to line beside its buffers.
 use board::Board;
+use joiner::Joiner;
 use log::Answer;
 use log::Log;
 use savedtrail::Reader;
@@ -16,6 +17,9 @@ pub struct State {
     // a board was made
     pub has_board: bool,
     pub board: Board,
+    // a joiner was made
+    pub has_joiner: bool,
+    pub joiner: Joiner,
     // the image that was saved last has so many bytes: 0 where none was
     pub image: usize,
     // a file was made, and has so many bytes
@@ -26,7 +30,7 @@ pub struct State {
     pub trail: Reader,
 }
 
-// What a call leaves, and what it tells: of the whole state, or of the log or the board alone.
+// What a call leaves, and what it tells: of the whole state, or of the log, the board or the joiner alone.
 pub struct Called {
     pub state: State,
     pub told: Told,
@@ -42,10 +46,16 @@ pub struct BoardCalled {
     pub told: Told,
 }
 
+pub struct JoinerCalled {
+    pub joiner: Joiner,
+    pub told: Told,
+}
+
 impl State {
     pub fn new() -> Self {
         let log = Log::new();
         let board = Board::new();
+        let joiner = Joiner::new();
         let trail = Reader::new();
         State {
             has_log: false,
@@ -55,6 +65,8 @@ impl State {
             count: 0,
             has_board: false,
             board,
+            has_joiner: false,
+            joiner,
             image: 0,
             has_file: false,
             file: 0,
@@ -75,6 +87,13 @@ impl State {
         state.board = board;
         state
     }
+
+    pub fn with_joiner(self, joiner: Joiner) -> Self {
+        let mut state = self;
+        state.has_joiner = true;
+        state.joiner = joiner;
+        state
+    }
 }
 
 pub fn left(state: State, told: Told) -> Called {
@@ -91,6 +110,12 @@ pub fn with_board(state: State, called: BoardCalled) -> Called {
     let board = called.board;
     let told = called.told;
     left(state.with_board(board), told)
+}
+
+pub fn with_joiner(state: State, called: JoinerCalled) -> Called {
+    let joiner = called.joiner;
+    let told = called.told;
+    left(state.with_joiner(joiner), told)
 }
 
 // What an answer of the log tells.

@@ -5,7 +5,6 @@ use crate::state::LogCalled;
 use crate::state::State;
 use log::Answer;
 use log::Log;
-use script::answers::Told;
 use script::lent;
 use script::lent::Space;
 use script::words;
@@ -18,12 +17,23 @@ fn outside(log: Log, words: Words, bytes: &Bytes, ring: &mut [u8]) -> Written {
     writes::write_outside(log, ring, words.w1.n, handed)
 }
 
+// The word behind the dictionary says that it is a fragment; where there is none it says 0.
 fn from_box(log: Log, words: Words, bytes: &Bytes, ring: &mut [u8]) -> Written {
     let text = words::bytes_of(words.w4, bytes);
     let dictionary = words::bytes_of(words.w5, bytes);
     let facility = words::unsigned_of(words.w1);
     let level = words::unsigned_of(words.w2);
-    writes::write_box(log, ring, facility, level, words.w3.n, text, dictionary)
+    let fragment = words.w6.n == 1;
+    writes::write_box(
+        log,
+        ring,
+        facility,
+        level,
+        words.w3.n,
+        text,
+        dictionary,
+        fragment,
+    )
 }
 
 fn write(log: Log, words: Words, bytes: &Bytes, ring: &mut [u8]) -> Written {

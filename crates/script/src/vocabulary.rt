@@ -17,7 +17,7 @@ use crate::words::Bytes;
 use crate::words::Word;
 use crate::words::Words;
 
-pub const ROWS: [u8; 1007] = *b"f0 log #70000 #255=log\n\
+pub const ROWS: [u8; 1123] = *b"f0 log #70000 #255=log\n\
     l0 check=fine|numbers|heading n\n\
     l1 numbers=n n n n n n n n n n|n n n n n n n n n -\n\
     l2 peek # #=h\n\
@@ -35,6 +35,7 @@ pub const ROWS: [u8; 1007] = *b"f0 log #70000 #255=log\n\
     nx number saved -=set\n\
     w0 outside # $=i n\n\
     w1 box ~ ~ # $ $=i n\n\
+    w2 box ~ ~ # $ $ #1=i n\n\
     r0 reader=reader n\n\
     r1 at # #=set\n\
     r2 where #=n\n\
@@ -45,6 +46,10 @@ pub const ROWS: [u8; 1007] = *b"f0 log #70000 #255=log\n\
     g0 board #255=board\n\
     b0 deliver $=n\n\
     b1 slot #23=nothing n|n n h\n\
+    k0 joiner #255=joiner\n\
+    j0 join $=n|n n h|n n h n m\n\
+    j1 close=none|n h\n\
+    j2 open #23=shut|open h\n\
     q0 line $=n|n n n n n h m\n\
     q1 console ~9223372036854775807 ~9223372036854775807=yes|no\n\
     s0 save #4294967295 @90000=i h\n\

@@ -31,6 +31,7 @@ pub struct Words {
     pub w3: Value,
     pub w4: Value,
     pub w5: Value,
+    pub w6: Value,
 }
 
 // A word: what it says, or that it is not what is wanted.
@@ -54,6 +55,7 @@ impl Words {
             w3: nothing,
             w4: nothing,
             w5: nothing,
+            w6: nothing,
         }
     }
 
@@ -65,7 +67,8 @@ impl Words {
             2 => words.w2 = value,
             3 => words.w3 = value,
             4 => words.w4 = value,
-            _ => words.w5 = value,
+            5 => words.w5 = value,
+            _ => words.w6 = value,
         }
         words
     }

@@ -6,10 +6,10 @@ use Rattle.replay.proofs.lines.run.Statement.{statement}
 use Rattle.replay.proofs.lines.run.Tie as tie
 
 abbrev Inv-loop : tie.InvT-loop
-Inv-loop chunk₀ line₀ bytes₀ buffer₀ slots₀ image₀ file₀ space₀ state₀ unread₀ left₀ chunk line bytes buffer slots image file space state unread left = left ≤ 18446744073709551615
+Inv-loop chunk₀ line₀ bytes₀ buffer₀ slots₀ texts₀ image₀ file₀ space₀ state₀ unread₀ left₀ chunk line bytes buffer slots texts image file space state unread left = left ≤ 18446744073709551615
 
 abbrev μ-loop : tie.MeasureT-loop
-μ-loop chunk₀ line₀ bytes₀ buffer₀ slots₀ image₀ file₀ space₀ state₀ unread₀ left₀ chunk line bytes buffer slots image file space state unread left = left
+μ-loop chunk₀ line₀ bytes₀ buffer₀ slots₀ texts₀ image₀ file₀ space₀ state₀ unread₀ left₀ chunk line bytes buffer slots texts image file space state unread left = left
 
 new-requires : tie.Need-new-requires Inv-loop μ-loop
 new-requires c κs = search needs
@@ -36,10 +36,10 @@ returns-2 : tie.Need-returns-2 Inv-loop μ-loop
 returns-2 c = search needs
 
 loop-less : tie.Need-loop-less Inv-loop μ-loop
-loop-less c = omega (arith, c .before .before .before .before .before .before .before .before .before .before .before .before .before .before .before .before .before .loop-test .taken)
+loop-less c = omega (arith, c .before .before .before .before .before .before .before .before .before .before .before .before .before .before .before .before .before .before .loop-test .taken)
 
 loop-again : tie.Need-loop-again Inv-loop μ-loop
-loop-again c = omega (arith, c .before .before .before .before .before .before .before .before .before .before .before .before .before .before .before .before .before .loop-test .taken, c .before .before .before .before .before .before .before .before .before .before .before .before .before .before .before .before .before .before .loop .inv)
+loop-again c = omega (arith, c .before .before .before .before .before .before .before .before .before .before .before .before .before .before .before .before .before .before .loop-test .taken, c .before .before .before .before .before .before .before .before .before .before .before .before .before .before .before .before .before .before .before .loop .inv)
 
 returns-3 : tie.Need-returns-3 Inv-loop μ-loop
 returns-3 c = search needs
