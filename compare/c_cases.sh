@@ -13,7 +13,7 @@ trap 'rm -rf "$room"' EXIT
 
 # compared SEED [wide]: a script's messages and console questions, each message for the line reader
 compared() {
-    "$second" script "$1" 30000 "${@:2}" | LC_ALL=C sed -n -e 's/^deliver/line/' -e '/^line\( \|$\)/p' -e '/^console\( \|$\)/p' >"$room/script"
+    "$second" script "$1" 30000 "${@:2}" | LC_ALL=C sed -n -e 's/^deliver/line/' -e 's/^join\( \|$\)/line\1/' -e '/^line\( \|$\)/p' -e '/^console\( \|$\)/p' >"$room/script"
     "$second" answer <"$room/script" >"$room/want"
     target/compare/lines <"$room/script" >"$room/wrote"
     cmp "$room/want" "$room/wrote" || { echo "c: the script of seed $* is answered otherwise"; exit 1; }

@@ -42,12 +42,12 @@ hand() {
     held "$1"
 }
 
-# script SEED LINES [wide|trail|console|lines], or script all console|levels|bytes
+# script SEED LINES [wide|trail|console|lines|joiner], or script all console|levels|bytes|pieces
 script() {
     "$second" script "$@" >"$room/in"
     "$second" answer <"$room/in" >"$room/want"
     lines=$((lines + $(wc -l <"$room/in")))
-    messages=$((messages + $(grep --text -c -E '^(deliver|line) ' "$room/in")))
+    messages=$((messages + $(grep --text -c -E '^(deliver|line|join) ' "$room/in")))
     held "script $*"
 }
 
@@ -80,6 +80,7 @@ hand 'a long line without its newline'
 case_of 'before a log' 'numbers\ncheck\nreader\nnumber start 0\npoke 0 00\npeek 0 1\noutside 0 -\nbox 1 1 0 - -\nat 0 0\nwhere 0\nread 0 0\nseek 0 0 0\ncommand 10 0 1 0 0\n' '?\n?\n?\n?\n?\n?\n?\n?\n?\n?\n?\n?\n?\n'
 case_of 'before a log, levels' 'minimum 1\nminimum 0\nnumber minimum 1\nnumber saved 1\nnumber saved -\n' '?\n?\n?\n?\n?\n'
 case_of 'before a board' 'slot 16\ndeliver -\nline -\nboard 7\nslot 16\nslot 15\nslot 24\n' '?\n?\n3\nboard\nnothing 0\n?\n?\n'
+case_of 'before a joiner' 'join -\njoin 0a\njoin\njoin zz\nclose\nclose 1\nopen 16\nopen 15\nopen 24\njoiner 256\nclose\nboard 0\nlog 1024 0\nopen 16\njoiner 255\nclose\nopen 16\nopen 15\nopen 24\njoin -\njoin 0a\n' '?\n?\n?\n?\n?\n?\n?\n?\n?\n?\n?\nboard\nlog\n?\njoiner\nnone\nshut\n?\n?\n3\n4\n'
 case_of 'before a disk' 'cut 1\npatch 0 00\ntrail\nnext 960\nsave 1 512\ndisk 512 0\ncut 1\nnext 960\nsave 1 512\n' '?\n?\n?\n?\n?\ndisk\n?\n?\n?\n'
 case_of 'a reader that is gone' 'disk 512 0\ntrail\nnext 960\ncut 1\nnext 960\ndisk 0 256\nnext 960\ndisk 0 0\nnext 960\ntrail\nnext 959\nnext 960\nnext 960\n' 'disk\ntrail\nstop check 0\n?\nstop check 0\n?\nstop check 0\ndisk\n?\ntrail\nroom\nend\nend\n'
 
@@ -99,6 +100,18 @@ case_of 'levels by hand' 'log 1024 0\nnumber minimum 18446744073709551615\nnumbe
 # ---- lines of a text, each with its prefix
 case_of 'two lines' 'log 1024 0\nbox 1 4 0 610a -\ncommand 9 0 1 0 0\ncommand 2 7 1 0 7\nnumbers\ncommand 2 1 1 0 1\nnumbers\ncommand 3 3 1 0 3\ncommand 9 0 1 0 0\n' 'log\n2 0\n11 -\n7 3c31323e610a3c\n0 26 0 1 0 0 7 7 1 -\n1 31\n0 26 0 1 0 0 8 7 1 -\n3 323e0a\n3 -\n'
 case_of 'limits of the offset' 'log 1024 0\nnumber next 1\nnumber first 1\nnumber offset 6726\ncheck\nnumber offset 6727\ncheck\noutside 0 61\nnumber offset 0\nbox 255 7 0 0a -\nnumber position 1\nnumber offset 13\ncheck\nnumber offset 14\ncheck\n' 'log\nset\nset\nset\nfine\nset\nnumbers\n-77 0\nset\n1 0\nset\nset\nfine\nset\nnumbers\n'
+
+# ---- fragments
+# "134,0,0,c;a" and "134,1,0,-;a", the flags at 22 and 47
+case_of 'a write that is a fragment' 'log 1024 0\nreader\nbox 16 6 0 61 - 1\nbox 16 6 0 61 - 0\nread 0 5000\nread 0 5000\npeek 22 1\npeek 47 1\ncheck\npoke 47 2b\ncheck\npoke 47 63\ncheck\nnumbers\n' 'log\nreader 0\n1 0\n1 0\n12 0 3133342c302c302c633b610a\n12 0 3133342c312c302c2d3b610a\n63\n2d\nfine\npoked\nheading 1\npoked\nfine\n0 50 0 2 0 0 0 7 1 -\n'
+case_of 'the sixth word of a box write' 'box 16 6 0 61 - 1\nlog 1024 0\nbox 16 6 0 61 - 2\nbox 16 6 0 61 - \nbox 16 6 0 61 - -\nbox 16 6 0 61 - -1\nbox 16 6 0 61 - 1 \nbox 256 6 0 61 - 2\nbox 256 6 0 61 - 1\nbox 16 6 0 61 -\nnumbers\n' '?\nlog\n?\n?\n?\n?\n?\n?\n-22 0\n1 0\n0 25 0 1 0 0 0 7 1 -\n'
+case_of 'odd words of the joiner' 'joiner 7\njoin 3133342c352c302c633b610a\njoiner 256\njoiner -1\njoiner\njoiner 0 0\njoin\njoin \njoin zz\njoin 0\njoin 0A\njoin - -\nclose 1\nclose \nclose 16\nopen\nopen 15\nopen 24\nopen -16\nopen 16 16\nopen 16\nclose\nclose\njoin 3133342c352c302c633b610a\n' 'joiner\n0\n?\n?\n?\n?\n?\n?\n?\n?\n?\n?\n?\n?\n?\n?\n?\n?\n?\n?\nopen 61\n16 61\nnone\n10\n'
+# c, + and - of facility 16: 134,1,0,c;a  134,2,0,+;b  134,3,0,-;d  134,4,0,+;e
+case_of 'pieces' 'joiner 7\njoin 3133342c312c302c633b610a\njoin 3133342c322c302c2b3b620a\njoin 3133342c332c302c2d3b640a\njoin 3133342c342c302c2b3b650a\nlog 1024 0\nboard 0\njoin 3133342c342c302c2d3b660a\n' 'joiner\n0\n0\n0 16 6162 16 64\n0 16 65\nlog\nboard\n10\n'
+# 959 bytes and one are given when another comes, which opens a new text
+{ printf 'joiner 7\njoin 3133342c312c302c633b'; many 1918 6; printf '0a\njoin 3133342c322c302c2b3b620a\njoin 3133342c332c302c2b3b640a\nopen 16\n'; } >"$room/in"
+{ printf 'joiner\n0\n0\n0 16 '; many 1918 6; printf '62\nopen 64\n'; } >"$room/want"
+hand 'a joined text of 960 bytes'
 
 # ---- readers
 { echo 'log 1024 0'; for i in $(seq 17); do echo reader; done; printf 'where 15\nwhere 16\nlog 1024 0\nwhere 0\n'; } >"$room/in"
@@ -127,11 +140,17 @@ script 108 4000 console
 script 109 4000 console
 script 110 4000 lines
 script 111 4000 lines
+script 112 4000 joiner
+script 113 4000 joiner
+script 114 4000 joiner
+script 115 4000 joiner
 # every run of up to five of eight console calls, and each of those calls on every log with levels of 0 to 9
 script all console
 script all levels
 # small logs with texts of many lines, each read by command 2 byte by byte and then, made again, in one read
 script all bytes
+# runs of up to five joiner calls, every one of each length over its own few calls, each on a fresh joiner
+script all pieces
 
 # ---- input that comes in pieces
 printf 'yes\nno\n' >"$room/want"

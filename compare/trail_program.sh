@@ -127,6 +127,8 @@ case_of 'a record without its last bytes' '134,7,1,-;1-0\nstop at record 1: unfi
 case_of 'a heading without its last byte' '134,7,1,-;1-0\nstop at record 1: unfinished\n' 7 4+32000000 "${records[@]}"
 case_of 'a number that does not follow' '134,7,1,-;1-0\nstop at record 1: it breaks the heading rules\n' 7 - "${records[0]}" 1000:9:134::
 case_of 'a prefix of 2,048' 'stop at record 0: it breaks the heading rules\n' 7 - 1000:7:2048::
+case_of 'a fragment' '134,7,1,c;1-0\n134,8,3,-;0-0\n k=v\nend: 2 records\n' 7 34+63 "${records[@]}"
+case_of 'a flag that no record has' 'stop at record 0: it breaks the heading rules\n' 7 34+2b "${records[@]}"
 case_of 'the largest prefix' '2047,7,1,-;\nend: 1 record\n' 7 - 1000:7:2047::
 case_of 'a dictionary without =' '134,7,1,-;1-0\nstop at record 1: it breaks the heading rules\n' 7 - "${records[0]}" 1000:8:134:61:6b
 case_of 'a text of 961 bytes' 'stop at record 0: it breaks the heading rules\n' 7 - "1000:7:134:$(many 1922 6):"

@@ -1,9 +1,10 @@
 //! The replay: a script of calls in, one line of answer for each out.
 
 use crate::board::{Board, BOARD, FIRST_CHANNEL, SLOTS};
+use crate::joiner::{Given, Joiner};
 use crate::log::{to_console, Log, Misfit};
 use crate::message::{hex_digit, read_line, BLOCK};
-use crate::record::{BULK, FLAG};
+use crate::record::BULK;
 use crate::trail::{save, Last, Next, Reason, Trail, BLOCK as SAVED};
 use std::io::{self, BufRead, Write};
 
@@ -21,6 +22,7 @@ pub struct Machine {
     pub log: Option<Log>,
     pub readers: Vec<u64>,
     pub board: Option<Board>,
+    pub joiner: Option<Joiner>,
     /// What the last good save wrote, the file, and the reader on it.
     pub image: Option<Vec<u8>>,
     pub file: Option<Vec<u8>>,
@@ -125,13 +127,19 @@ impl Machine {
                 let log = self.log.as_mut()?;
                 write(log, |log| log.outside(time, &handed))
             }
-            ["box", facility, level, time, text, dictionary] => {
+            ["box", facility, level, time, text, dictionary, ref more @ ..] => {
+                // Left out, it is no fragment.
+                let fragment = match *more {
+                    [] => false,
+                    [word] => num_to(word, 1)? == 1,
+                    _ => return None,
+                };
                 let (facility, level) = (any_int(facility)?, any_int(level)?);
                 let time = num(time)?;
                 let (text, dictionary) = (unhex(text)?, unhex(dictionary)?);
                 let log = self.log.as_mut()?;
                 write(log, |log| {
-                    log.from_box(facility, level, time, &text, &dictionary)
+                    log.from_box(facility, level, time, &text, &dictionary, fragment)
                 })
             }
             ["reader"] => {
@@ -209,8 +217,7 @@ impl Machine {
                 Some(format!("{answer}{}", mark(!board_stayed(&before, board))))
             }
             ["slot", channel] => {
-                let channel = num_to(channel, FIRST_CHANNEL + SLOTS as u64 - 1)?;
-                let index = channel.checked_sub(FIRST_CHANNEL)? as usize;
+                let index = channel_index(channel)?;
                 let board = self.board.as_ref()?;
                 let slot = board.slots[index];
                 Some(match slot.number {
@@ -218,6 +225,23 @@ impl Machine {
                     Some(number) => {
                         format!("{number} {} {}", slot.length, hex(board.shown(index)))
                     }
+                })
+            }
+            ["joiner", fill] => {
+                let fill = num_to(fill, 255)? as u8;
+                self.joiner = Some(Joiner::fresh(vec![fill; BOARD]));
+                Some("joiner".into())
+            }
+            ["join", message] => {
+                let message = unhex(message)?;
+                Some(join(self.joiner.as_mut()?, &message))
+            }
+            ["close"] => Some(close(self.joiner.as_mut()?)),
+            ["open", facility] => {
+                let index = channel_index(facility)?;
+                Some(match self.joiner.as_ref()?.open_text(index) {
+                    None => "shut".into(),
+                    Some(text) => format!("open {}", hex(text)),
                 })
             }
             ["line", message] => Some(line(&unhex(message)?)),
@@ -312,6 +336,64 @@ fn board_stayed(before: &Board, after: &Board) -> bool {
     wanted == after.buffer
 }
 
+fn join(joiner: &mut Joiner, message: &[u8]) -> String {
+    let before = joiner.clone();
+    let mut results = [vec![LENT; BULK], vec![LENT; BULK]];
+    let [first, second] = &mut results;
+    match joiner.join(message, first, second) {
+        Err(refusal) => {
+            let changed = *joiner != before || results.iter().any(|result| !stayed(result, 0));
+            format!("{refusal}{}", mark(changed))
+        }
+        Ok(given) => {
+            let mut said = String::from("0");
+            let mut changed = !texts_stayed(&before, joiner, &given);
+            for (i, result) in results.iter().enumerate() {
+                let length = given.get(i).map_or(0, |text| text.length);
+                changed |= !stayed(result, length);
+                if let Some(text) = given.get(i) {
+                    said += &format!(" {} {}", text.facility, hex(&result[..length]));
+                }
+            }
+            said + mark(changed)
+        }
+    }
+}
+
+fn close(joiner: &mut Joiner) -> String {
+    let before = joiner.clone();
+    let mut result = vec![LENT; BULK];
+    let (said, length) = match joiner.close(&mut result) {
+        Err(refusal) => (refusal.to_string(), 0),
+        Ok(None) => ("none".into(), 0),
+        Ok(Some(Given { facility, length })) => {
+            let text = hex(&result[..length]);
+            (format!("{facility} {text}"), length)
+        }
+    };
+    let changed = joiner.buffer != before.buffer || !stayed(&result, length);
+    format!("{said}{}", mark(changed))
+}
+
+/// Whether nothing but the piece's own place changed among the open texts.
+fn texts_stayed(before: &Joiner, after: &Joiner, given: &[Given]) -> bool {
+    let mut wanted = before.buffer.clone();
+    for index in 0..SLOTS {
+        let facility = FIRST_CHANNEL + index as u64;
+        // Behind what was open; at the front where that was given.
+        let from = match given.iter().any(|text| text.facility == facility) {
+            true => 0,
+            false => before.open[index].unwrap_or(0) as usize,
+        };
+        let to = after.open[index].unwrap_or(0) as usize;
+        if from < to {
+            let place = index * BULK + from..index * BULK + to;
+            wanted[place.clone()].copy_from_slice(&after.buffer[place]);
+        }
+    }
+    wanted == after.buffer
+}
+
 fn line(message: &[u8]) -> String {
     let mut result = vec![LENT; BULK];
     let mut block = vec![LENT; BLOCK];
@@ -356,10 +438,11 @@ fn next(trail: &mut Trail, file: &[u8], result: &mut [u8]) -> String {
             let count = record.text.len() + record.dictionary.len();
             let (text, dictionary) = result[..count].split_at(record.text.len());
             let said = format!(
-                "record {} {} {} {FLAG} {} {}",
+                "record {} {} {} {} {} {}",
                 record.sequence,
                 record.time,
                 record.prefix,
+                record.flag,
                 hex(text),
                 hex(dictionary)
             );
@@ -367,6 +450,12 @@ fn next(trail: &mut Trail, file: &[u8], result: &mut [u8]) -> String {
         }
     };
     format!("{said}{}", mark(!stayed(result, count)))
+}
+
+/// The place of a channel or facility among the eight.
+fn channel_index(word: &str) -> Option<usize> {
+    let channel = num_to(word, FIRST_CHANNEL + SLOTS as u64 - 1)?;
+    Some(channel.checked_sub(FIRST_CHANNEL)? as usize)
 }
 
 /// How many lent bytes an answer counts.

@@ -155,12 +155,47 @@ impl Script<'_> {
             self.put_zeros(&mut text, 0);
         }
         let time = self.time();
+        let fragment = match self.random.below(25) {
+            0 => self.odd_fragment(),
+            _ => self.fragment(),
+        };
         self.say(format!(
-            "box {facility} {level} {time} {} {}",
+            "box {facility} {level} {time} {} {}{fragment}",
             hex(&text),
             hex(&dictionary)
         ));
         self.after_call();
+    }
+
+    /// The last word of a write from the box with the space before it, or nothing.
+    pub(super) fn fragment(&mut self) -> &'static str {
+        self.random.pick(&["", "", "", "", " 0", " 1", " 1", " 1"])
+    }
+
+    /// A last word that says neither yes nor no, so that the line is no call.
+    fn odd_fragment(&mut self) -> &'static str {
+        const ODD: &[&str] = &[
+            " 2",
+            " 2",
+            " 10",
+            " 99",
+            " 255",
+            " 256",
+            " -1",
+            " -",
+            " c",
+            " ",
+            " 0 ",
+            "  1",
+            " 1x",
+            " 18446744073709551615",
+            " 18446744073709551616",
+        ];
+        const WIDE: &[&str] = &[" 01", " 00", " 001", " 02", " +1", " -0"];
+        match self.wide && self.random.chance(50) {
+            true => self.random.pick(WIDE),
+            false => self.random.pick(ODD),
+        }
     }
 
     fn after_call(&mut self) {

@@ -3,7 +3,7 @@
 use super::Script;
 use crate::answer::hex;
 use crate::log::TOP_OFFSET;
-use crate::record::{Record, BULK, HEADING};
+use crate::record::{Record, BULK, FRAGMENT, HEADING, WHOLE};
 
 /// What puts a change by hand right again.
 pub(super) enum Repair {
@@ -188,7 +188,7 @@ impl Script<'_> {
                     .pick(&[0, 1, 2_046, 2_047, 2_048, 2_049, 65_535]);
                 (20, prefix.to_le_bytes().into())
             }
-            4 => (22, vec![self.random.pick(&[44, 46, 0, 43, 99, 173, 45])]),
+            4 => (22, vec![self.heading_flag()]),
             5 => (23, vec![self.random.pick(&[1, 45, 128, 255, 0])]),
             6 => (0, self.random.any().to_le_bytes().into()),
             7 => {
@@ -221,6 +221,18 @@ impl Script<'_> {
             }
         };
         self.poke_ring(place + at, &bytes, repairs);
+    }
+
+    /// One of the two flags that a record has.
+    pub(super) fn any_flag(&mut self) -> u8 {
+        self.random.pick(&[WHOLE, WHOLE, FRAGMENT])
+    }
+
+    /// A heading's flag by hand: one of the two, their neighbours, and others.
+    pub(super) fn heading_flag(&mut self) -> u8 {
+        self.random.pick(&[
+            WHOLE, FRAGMENT, FRAGMENT, FRAGMENT, b'+', b'+', 0, 44, 46, 67, 98, 100, 173, 227, 255,
+        ])
     }
 
     /// An empty log whose next number is at the end of all numbers.
@@ -275,9 +287,10 @@ impl Script<'_> {
             b"a==",
             b"a=\0b=",
         ];
-        match self.random.below(7) {
+        match self.random.below(8) {
             0 => record.prefix = self.random.pick(&[2_047, 2_048, 2_049]),
             1 => record.sequence = self.near(record.sequence),
+            7 => record.flag = self.heading_flag(),
             2..=4 => {
                 // As many bytes as a record may have, or a few more.
                 let total = BULK + self.random.pick(&[0, 1, 1, 2, 40]);
@@ -408,6 +421,11 @@ impl Script<'_> {
             (20, vec![0, 8]),
             (22, vec![44]),
             (22, vec![46]),
+            (22, vec![b'+']),
+            (22, vec![b'b']),
+            (22, vec![b'c']),
+            (22, vec![b'd']),
+            (22, vec![b'-']),
             (23, vec![1]),
             (23, vec![255]),
         ];
@@ -473,6 +491,7 @@ impl Script<'_> {
                 time: self.time(),
                 sequence: first + i,
                 prefix: self.random.below(2_048) as u16,
+                flag: self.any_flag(),
                 text,
                 dictionary,
             };
@@ -492,6 +511,7 @@ impl Script<'_> {
                 time: 1,
                 sequence: first + records.len() as u64,
                 prefix: 134,
+                flag: self.any_flag(),
                 text: self.text(length),
                 dictionary: Vec::new(),
             };

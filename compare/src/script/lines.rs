@@ -160,8 +160,9 @@ impl Script<'_> {
             true => self.dictionary(BULK - text.len()),
             false => Vec::new(),
         };
+        let fragment = self.fragment();
         self.say(format!(
-            "box {facility} {level} {time} {} {}",
+            "box {facility} {level} {time} {} {}{fragment}",
             hex(&text),
             hex(&dictionary)
         ));

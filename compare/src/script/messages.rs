@@ -6,8 +6,8 @@ use crate::record::{escape_byte, stands, Record, BULK};
 
 /// A message in pieces.
 #[derive(Clone)]
-struct Parts {
-    fields: Vec<Vec<u8>>,
+pub(super) struct Parts {
+    pub(super) fields: Vec<Vec<u8>>,
     semicolon: bool,
     text: Vec<u8>,
     /// Continuation lines, each with its space.
@@ -16,7 +16,7 @@ struct Parts {
 }
 
 impl Parts {
-    fn join(&self) -> Vec<u8> {
+    pub(super) fn join(&self) -> Vec<u8> {
         let mut out = self.fields.join(&b',');
         if self.semicolon {
             out.push(b';');
@@ -33,7 +33,7 @@ impl Parts {
     }
 
     /// Adds a field so that the message has this many bytes.
-    fn pad(&mut self, length: usize) {
+    pub(super) fn pad(&mut self, length: usize) {
         let now = self.join().len();
         if now < length {
             self.fields.push(vec![b'p'; length - now - 1]);
@@ -43,7 +43,7 @@ impl Parts {
 
 /// How much of a text is escaped.
 #[derive(Clone, Copy)]
-enum Escaping {
+pub(super) enum Escaping {
     Needed,
     Some,
     All,
@@ -96,6 +96,7 @@ impl Script<'_> {
             time: self.time(),
             sequence,
             prefix: (facility * 8 + self.random.below(8)) as u16,
+            flag: self.any_flag(),
             text: self.bytes(length),
             dictionary: self.dictionary(BULK - length),
         };
@@ -108,8 +109,9 @@ impl Script<'_> {
         }
     }
 
-    pub(super) fn delivery(&mut self) {
-        let message = match self.random.below(100) {
+    /// Any message: of a record or of the log, spoilt, at a limit, or odd.
+    pub(super) fn any_message(&mut self) -> Vec<u8> {
+        match self.random.below(100) {
             0..=44 => {
                 let record = self.from_pool();
                 self.spelling(&record)
@@ -129,7 +131,14 @@ impl Script<'_> {
             83..=89 => self.at_the_limit(),
             90..=97 => self.scratched(),
             _ => self.oddity(),
-        };
+        }
+    }
+
+    pub(super) fn delivery(&mut self) {
+        let message = self.any_message();
+        if self.random.chance(8) {
+            self.say_hex("join", &message);
+        }
         match self.random.below(20) {
             0..=3 => self.say_hex("line", &message),
             4..=7 => {
@@ -165,7 +174,7 @@ impl Script<'_> {
         self.pool[(count - 1 - back) as usize].clone()
     }
 
-    fn from_log(&mut self) -> Option<Record> {
+    pub(super) fn from_log(&mut self) -> Option<Record> {
         let records = self.log().records()?.clone();
         let index = self.random.below(records.len() as u64) as usize;
         records.get(index).cloned()
@@ -187,7 +196,18 @@ impl Script<'_> {
     }
 
     fn spelled(&mut self, record: &Record) -> Parts {
-        let flag = match self.random.below(10) {
+        let flag = self.message_flag();
+        let escaping = self.random.pick(&[
+            Escaping::Needed,
+            Escaping::Needed,
+            Escaping::Some,
+            Escaping::All,
+        ]);
+        self.spelled_with(record, flag, escaping)
+    }
+
+    fn message_flag(&mut self) -> Vec<u8> {
+        match self.random.below(10) {
             0..=4 => b"-".to_vec(),
             5 => b"c".to_vec(),
             6 => b"+".to_vec(),
@@ -204,7 +224,15 @@ impl Script<'_> {
                 flag.push(b'n');
                 flag
             }
-        };
+        }
+    }
+
+    pub(super) fn spelled_with(
+        &mut self,
+        record: &Record,
+        flag: Vec<u8>,
+        escaping: Escaping,
+    ) -> Parts {
         let mut fields: Vec<Vec<u8>> = vec![
             record.prefix.to_string().into(),
             record.sequence.to_string().into(),
@@ -221,12 +249,6 @@ impl Script<'_> {
             field.retain(|b| !b";\n".contains(b));
             fields.push(field);
         }
-        let escaping = self.random.pick(&[
-            Escaping::Needed,
-            Escaping::Needed,
-            Escaping::Some,
-            Escaping::All,
-        ]);
         let text = self.escaped(&record.text, escaping);
         let mut lines = Vec::new();
         for entry in record.entries() {
@@ -261,7 +283,7 @@ impl Script<'_> {
     }
 
     /// Spoils a message in one way; now and then it stays good.
-    fn spoil(&mut self, parts: &mut Parts) {
+    pub(super) fn spoil(&mut self, parts: &mut Parts) {
         match self.random.below(18) {
             0 => {
                 let length = self

@@ -5,6 +5,7 @@
 mod calls;
 mod console;
 mod damage;
+mod joiner;
 mod lines;
 mod messages;
 mod trail;
@@ -16,6 +17,7 @@ use crate::record::Record;
 use std::io::{self, Write};
 
 pub use console::{write_all_levels, write_all_runs};
+pub use joiner::write_all_pieces;
 pub use lines::write_all_bytes;
 
 /// What a script is made of.
@@ -31,6 +33,8 @@ pub enum Kind {
     Console,
     /// Texts of many lines, and the commands that give them.
     Lines,
+    /// Pieces of texts, and the joiner that puts them together.
+    Joiner,
 }
 
 /// Writes `lines` lines.
@@ -54,6 +58,7 @@ pub fn write_script(seed: u64, lines: u64, kind: Kind, output: &mut dyn Write) -
             Kind::Trail => script.trail_chapter(),
             Kind::Console => script.console_chapter(),
             Kind::Lines => script.lines_chapter(),
+            Kind::Joiner => script.joiner_chapter(),
             _ => script.chapter(),
         }
         if let Some(error) = script.failure.take() {
@@ -143,10 +148,26 @@ impl Script<'_> {
         if matches!(kind, Kind::Console | Kind::Lines) {
             return;
         }
+        if kind == Kind::Joiner {
+            for line in [
+                "join -",
+                "close",
+                "open 16",
+                "joiner 256",
+                "close",
+                "reader",
+            ] {
+                self.say(line);
+            }
+            self.fresh_board();
+            self.fresh_joiner();
+            return;
+        }
         for _ in 0..3 {
             self.say("reader");
         }
         self.fresh_board();
+        self.fresh_joiner();
         for _ in 0..40 {
             self.step();
         }
@@ -224,7 +245,7 @@ impl Script<'_> {
     }
 
     fn step(&mut self) {
-        match self.random.below(1_095) {
+        match self.random.below(1_170) {
             0..=199 => self.outside(),
             200..=309 => self.from_box(),
             310..=459 => self.read(),
@@ -246,7 +267,8 @@ impl Script<'_> {
             837..=999 => self.delivery(),
             1_000..=1_009 => self.trail_scene(),
             1_010..=1_049 => self.console_scene(),
-            _ => self.lines_scene(),
+            1_050..=1_094 => self.lines_scene(),
+            _ => self.joiner_scene(),
         }
     }
 
@@ -423,6 +445,13 @@ impl Script<'_> {
             "box 1 1 0 61",
             "box 1 1 0 61 613",
             "box x 1 0 61 -",
+            "box 1 1 0 61 - 2",
+            "box 1 1 0 61 - ",
+            "box 1 1 0 61 - -",
+            "box 1 1 0 61 - -1",
+            "box 1 1 0 61 - c",
+            "box 1 1 0 61 613 1",
+            "box 1 1 0 61 1",
             "reader 0",
             "at 0",
             "at 99 0",
@@ -467,6 +496,34 @@ impl Script<'_> {
             "line",
             "line 0g",
             "line - -",
+            "joiner",
+            "joiner ",
+            "joiner 256",
+            "joiner -1",
+            "joiner x",
+            "joiner 0 0",
+            "join",
+            "join ",
+            "join 0",
+            "join zz",
+            "join 0A",
+            "join - -",
+            "join 3132 1",
+            "close ",
+            "close 1",
+            "close 16",
+            "close -",
+            "closes",
+            "open",
+            "open ",
+            "open 0",
+            "open 15",
+            "open 24",
+            "open 144",
+            "open -16",
+            "open x",
+            "open -",
+            "open 16 17",
             "save",
             "save 1",
             "save 1 90001",
@@ -530,6 +587,14 @@ impl Script<'_> {
             "box 0 -9223372036854775808 0 - -",
             "box 0 -9223372036854775809 0 - -",
             "box - 0 0 - -",
+            "box 1 1 0 61 - 01",
+            "box 1 1 0 61 - 000",
+            "box 1 1 0 61 - +1",
+            "box 256 8 0 61 - 01",
+            "joiner 007",
+            "joiner +7",
+            "open 016",
+            "open +16",
             "number console 4294967303",
             "number console 18446744073709551615",
             "number offset 4294967296",

@@ -121,8 +121,9 @@ impl Script<'_> {
             };
             let (facility, level) = (self.random.below(256), self.random.below(8));
             let time = self.time();
+            let fragment = self.fragment();
             self.say(format!(
-                "box {facility} {level} {time} {} {}",
+                "box {facility} {level} {time} {} {}{fragment}",
                 hex(&text),
                 hex(&dictionary)
             ));
@@ -497,7 +498,7 @@ impl Script<'_> {
                 let prefix: u16 = self.random.pick(&[2_047, 2_048, 2_048, 32_768, 65_535]);
                 (20, prefix.to_le_bytes().into())
             }
-            7 => (22, vec![self.random.pick(&[0, 44, 46, 43, 99, 173])]),
+            7 => (22, vec![self.heading_flag()]),
             _ => (23, vec![self.random.pick(&[1, 45, 128, 255])]),
         };
         self.put(place + at, &bytes);
@@ -599,6 +600,7 @@ impl Script<'_> {
                 time: self.time(),
                 sequence: first.wrapping_add(i),
                 prefix: self.random.below(2_048) as u16,
+                flag: self.any_flag(),
                 text,
                 dictionary,
             };

@@ -106,7 +106,8 @@ fn headings() {
     // Prefix, flag, zero.
     after(&["poke 20 ff07"], "fine");
     after(&["poke 20 0008"], "heading 0");
-    after(&["poke 22 63"], "heading 0");
+    after(&["poke 22 63"], "fine");
+    after(&["poke 22 2b"], "heading 0");
     after(&["poke 23 01"], "heading 0");
     after(&["poke 50 01"], "heading 1");
     // Dictionary: "k=v" lies from 77.

@@ -320,6 +320,7 @@ fn lengths_of_forms() {
                     time: 0,
                     sequence: 0,
                     prefix,
+                    flag: b'-',
                     text: text.collect(),
                     dictionary: Vec::new(),
                 };

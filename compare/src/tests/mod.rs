@@ -2,6 +2,7 @@
 
 mod check;
 mod console;
+mod joiner;
 mod lines;
 mod moments;
 mod reach;
