@@ -2,7 +2,7 @@
 use Prim.Native.Nat.{ℕ, _≤_}
 use mathlib.Core.Path.{_≡_, refl, ap, ap₂, sym, _∙_}
 use mathlib.Core.Logic.{inl, inr}
-use mathlib.Core.Bool.{Bool, true, false, cond, not}
+use mathlib.Core.Bool.{Bool, true, false, cond}
 use mathlib.Core.List.{List, [], _∷_, _++_}
 use native.Mathlib.Omega.{arith}
 use native.Mathlib.Nat.{zero-add}
@@ -26,9 +26,9 @@ use Rattle.savedtrail.specs.declared.Told.the-variants.{Room}
 use Rattle.message.specs.Message.{ROOM, BULK, text, dictionary, refusal, reading}
 use Rattle.message.specs.Line.{Line, lacksRoom, lineRefusal, readLine, block}
 use Rattle.message.specs.Line.{line as lineLeft}
-use Rattle.board.specs.Board.{State, slot, hasChannel, channel, isLate, CHANNEL, LATE, boardRefusal, show, Delivered, deliver}
-use Rattle.board.specs.Board.{lacksRoom as lacksBoard}
-use Rattle.board.proofs.AnswerLaws.{refusal-most}
+use Rattle.message.proofs.RefusedLaws.{first-most, refusal-most}
+use Rattle.board.specs.Board.{State, LATE, boardRefusal, show, Delivered, deliver}
+use Rattle.board.specs.Board.{refusals as boardRefusals}
 use Rattle.joiner.specs.Joiner.{After, join, Closed, closed, close, Given}
 use Rattle.joiner.specs.Joiner.{State as JoinerState, after as joinAfter}
 use Rattle.joiner.specs.declared.Answer.{Answer as Joined}
@@ -128,15 +128,7 @@ module _ (m result numbers : List ℕ) where
 
 board-most : (b : State) (m : List ℕ) → boardRefusal b m ≤ LATE
 unfolding boardRefusal
-board-most b m =
-    go (lacksBoard b) (not (eqb (refusal m) 0)) (not (hasChannel (reading m .prefix))) (isLate (reading m .sequence) (slot b (channel (reading m .prefix)) .shown))
-  where
-    go : (r t c l : Bool) → cond r ROOM (cond t (refusal m) (cond c CHANNEL (cond l LATE 0))) ≤ LATE
-    go true t c l = omega arith
-    go false true c l = omega (arith, refusal-most m)
-    go false false true l = omega arith
-    go false false false true = omega arith
-    go false false false false = omega arith
+board-most b m = first-most LATE (boardRefusals b m) (rw (le-leb (refusal m) LATE (omega (arith, refusal-most m))))
 
 board-known : (b : State) (m : List ℕ) → deliver b m .answer ≤ LATE
 unfolding deliver
