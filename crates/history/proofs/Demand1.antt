@@ -150,10 +150,10 @@ minimum-left log buffer wanted (refused why) = (known-refusal why, λ k e. same-
 
 pub demand-1 : Demand1
 unfolding step outsideWrite boxWrite reading seeking commanding saving settingMinimum
-demand-1 s (outside time bytes) n e =
+demand-1 s (outside time bytes caller) n e =
     let f = fits-at e (write-left s _ _ _) in
     record { known = f .0; state = f .1; lent = λ k z. refl }
-demand-1 s (box facility level time text dictionary fragment) n e =
+demand-1 s (box facility level time text dictionary fragment caller) n e =
     let f = fits-at e (write-left s _ _ _) in
     record { known = f .0; state = f .1; lent = λ k z. refl }
 demand-1 s make n e = absurd e

@@ -156,16 +156,16 @@ module _ (s : State) (p : Past) (a : Agrees s p) (ok : Sound p) where
 pub agree-step : (s : State) (p : Past) (c : Call) → Agrees s p → Sound p → Timed c
     → (step s c .reply ≡ pastStep p c .reply) × Agrees (step s c .state) (pastStep p c .past)
 unfolding step pastStep outsideWrite boxWrite reading seeking commanding saving settingMinimum
-agree-step s p (outside time bytes) a ok t =
-    rw (ruled-is s p a ok (λ v. outsideRuling v bytes), ap (λ (n : ℕ). outsideRecord n time bytes) (next-is s p a ok))
-    (write-step s p a ok (outsideRecord (nextNumber p) time bytes) (length bytes) (outsideRuling (held p) bytes) (outside-ready p ok time bytes t))
-agree-step s p (box facility level time text dictionary fragment) a ok t =
+agree-step s p (outside time bytes caller) a ok t =
+    rw (ruled-is s p a ok (λ v. outsideRuling v bytes), ap (λ (n : ℕ). outsideRecord n time bytes caller) (next-is s p a ok))
+    (write-step s p a ok (outsideRecord (nextNumber p) time bytes caller) (length bytes) (outsideRuling (held p) bytes) (outside-ready p ok time bytes caller t))
+agree-step s p (box facility level time text dictionary fragment caller) a ok t =
     rw (
       ruled-is s p a ok (λ v. boxRuling v facility level text dictionary),
-      ap (λ (n : ℕ). boxRecord n time facility level text dictionary fragment) (next-is s p a ok),
+      ap (λ (n : ℕ). boxRecord n time facility level text dictionary fragment caller) (next-is s p a ok),
     )
-    (write-step s p a ok (boxRecord (nextNumber p) time facility level text dictionary fragment) (length text + length dictionary)
-    (boxRuling (held p) facility level text dictionary) (box-ready p ok facility level time text dictionary fragment t))
+    (write-step s p a ok (boxRecord (nextNumber p) time facility level text dictionary fragment caller) (length text + length dictionary)
+    (boxRuling (held p) facility level text dictionary) (box-ready p ok facility level time text dictionary fragment caller t))
 agree-step s p make a ok t =
     let e = first-is s p a ok in
     (ap made e, agree-readers s p a ok _ _ (ap₂ (λ (l : List ℕ) (n : ℕ). l ++ (n ∷ [])) (a .readers) e))

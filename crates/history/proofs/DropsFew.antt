@@ -1,4 +1,4 @@
--- A write drops at most 41 records: each of them frees 24 bytes or more, and no record costs more than 984.
+-- A write drops at most 31 records: each of them frees 32 bytes or more, and no record costs more than 992.
 use Prim.Native.Nat.{ℕ, _+_, _≤_}
 use mathlib.Core.Path.{_≡_, refl}
 use mathlib.Core.Bool.{Bool, true, false}
@@ -40,12 +40,12 @@ module _ (p : Past) (large : capacityLeast ≤ p .capacity) where
 
 pub drops-few : DropsFew
 unfolding pastStep
-drops-few p l (outside time bytes) =
-    few-written p l (outsideRecord (nextNumber p) time bytes) (length bytes) (outsideRuling (held p) bytes)
-    (outside-payload (held p) (nextNumber p) time bytes)
-drops-few p l (box facility level time text dictionary fragment) =
-    few-written p l (boxRecord (nextNumber p) time facility level text dictionary fragment) (length text + length dictionary)
-    (boxRuling (held p) facility level text dictionary) (box-payload (held p) (nextNumber p) facility level time text dictionary fragment)
+drops-few p l (outside time bytes caller) =
+    few-written p l (outsideRecord (nextNumber p) time bytes caller) (length bytes) (outsideRuling (held p) bytes)
+    (outside-payload (held p) (nextNumber p) time bytes caller)
+drops-few p l (box facility level time text dictionary fragment caller) =
+    few-written p l (boxRecord (nextNumber p) time facility level text dictionary fragment caller) (length text + length dictionary)
+    (boxRuling (held p) facility level text dictionary) (box-payload (held p) (nextNumber p) facility level time text dictionary fragment caller)
 drops-few p l make = tt
 drops-few p l (place i n) = tt
 drops-few p l (read i lent) = few-there (ltb i (length (p .readers))) _ _ tt tt

@@ -90,9 +90,9 @@ module _ (p : Past) (m : ℕ) (saved : settingIn p .saved ≡ Level m) where
 
   keeps-saved : (c : Call) → NotOn c → settingIn (pastStep p c .past) .saved ≡ Level m
   unfolding pastStep
-  keeps-saved (outside time bytes) h = write-keeps (outsideRecord (nextNumber p) time bytes) (length bytes) (outsideRuling (held p) bytes)
-  keeps-saved (box facility level time text dictionary fragment) h =
-      write-keeps (boxRecord (nextNumber p) time facility level text dictionary fragment) _ (boxRuling (held p) facility level text dictionary)
+  keeps-saved (outside time bytes caller) h = write-keeps (outsideRecord (nextNumber p) time bytes caller) (length bytes) (outsideRuling (held p) bytes)
+  keeps-saved (box facility level time text dictionary fragment caller) h =
+      write-keeps (boxRecord (nextNumber p) time facility level text dictionary fragment caller) _ (boxRuling (held p) facility level text dictionary)
   keeps-saved make h = saved
   keeps-saved (place i n) h = saved
   keeps-saved (read i lent) h = there-keeps (ltb i (length (p .readers))) _ _

@@ -76,9 +76,9 @@ abbrev reader : List ℕ → ℕ → ℕ
 reader readers i = getD readers i 0
 
 abbrev test : Bool → View → List ℕ → Call → Refusal → Bool
-test bad v readers (outside time bytes) =
+test bad v readers (outside time bytes caller) =
     row bad false false (ltb payloadMost (length bytes) || has 0 bytes) false (eqb (nextOf v) wordMost) false false
-test bad v readers (box facility level time text dictionary fragment) =
+test bad v readers (box facility level time text dictionary fragment caller) =
     row bad false false
     (ltb facilityMost facility || (ltb levelMost level || (ltb payloadMost (length text + length dictionary) || not (isDictionary dictionary))))
     false (eqb (nextOf v) wordMost) false false
@@ -127,12 +127,12 @@ module _ (failing : Type 0) (bad : Bool) (bs : bad ≡ true → failing) (bc : f
   short-complete number lent h = lt-ltb (length lent) (length (imageFor v number)) (omega (arith, length-image v number))
 
   sound : (c : Call) (r : Refusal) → test bad v readers c r ≡ true → Row c r
-  sound (outside time bytes) r q =
-      by-row (Row (outside time bytes)) (λ e. check-fails (bs e)) never never
+  sound (outside time bytes caller) r q =
+      by-row (Row (outside time bytes caller)) (λ e. check-fails (bs e)) never never
       (λ e. elim (outside-says bytes .says e) [ inl h ↦ over-960 h | inr h ↦ zero-byte h ]) never
       (λ e. outside-at-last (eqb-true (nextOf v) wordMost e)) never never r q
-  sound (box facility level time text dictionary fragment) r q =
-      by-row (Row (box facility level time text dictionary fragment)) (λ e. check-fails (bs e)) never never
+  sound (box facility level time text dictionary fragment caller) r q =
+      by-row (Row (box facility level time text dictionary fragment caller)) (λ e. check-fails (bs e)) never never
       (λ e. elim (box-says facility level text dictionary .says e) [
         | inl h ↦ bad-facility h
         | inr h ↦ elim h [ inl k ↦ bad-level k | inr k ↦ elim k [ inl l ↦ over-960-together l | inr d ↦ bad-dictionary d ] ]
@@ -170,8 +170,8 @@ module _ (failing : Type 0) (bad : Bool) (bs : bad ≡ true → failing) (bc : f
 
   -- any call whose log check fails
   bad-first : (c : Call) → bad ≡ true → test bad v readers c EBADFD ≡ true
-  bad-first (outside time bytes) e = e
-  bad-first (box facility level time text dictionary fragment) e = e
+  bad-first (outside time bytes caller) e = e
+  bad-first (box facility level time text dictionary fragment caller) e = e
   bad-first make e = e
   bad-first (place i n) e = e
   bad-first (read i lent) e = above-read i .told (inl (bs e))
@@ -286,8 +286,8 @@ code (pos n) = 0
 code (negsuc n) = n + 1
 
 pub rows-apart : (c : Call) (k : ℕ) → Numbered (order c) tableNumber (pos k)
-rows-apart (outside time bytes) k = numbered code table tableNumber (pos k) refl
-rows-apart (box facility level time text dictionary fragment) k = numbered code table tableNumber (pos k) refl
+rows-apart (outside time bytes caller) k = numbered code table tableNumber (pos k) refl
+rows-apart (box facility level time text dictionary fragment caller) k = numbered code table tableNumber (pos k) refl
 rows-apart make k = numbered code table tableNumber (pos k) refl
 rows-apart (place i n) k = numbered code table tableNumber (pos k) refl
 rows-apart (read i lent) k = numbered code readTable tableNumber (pos k) refl
@@ -410,23 +410,23 @@ module _ (s : State) (failing : Type 0) (bs : isBad (checked (s .log) (s .buffer
 
   pub listed : (c : Call) → Asking (s .readers) c → Listed failing view (s .readers) c (answered s c)
   unfolding step outsideWrite boxWrite reading seeking commanding saving settingMinimum outsideRuling boxRuling readRuling seekRuling saveRuling minimumRuling
-  listed (outside time bytes) h =
+  listed (outside time bytes caller) h =
       record {
-        answer = outsideWrite (s .log) (s .buffer) time bytes .answer;
+        answer = outsideWrite (s .log) (s .buffer) time bytes caller .answer;
         answers = refl;
         exactly =
-            exact (outside time bytes) (length bytes) _
+            exact (outside time bytes caller) (length bytes) _
             (write-number (s .log) (s .buffer) _ (length bytes) _
             ∙ ruled-number (λ v. outsideRuling v bytes) (pos (length bytes))
             ∙ first-outside wrong (ltb payloadMost (length bytes)) (has 0 bytes) (eqb (nextOf view) wordMost) (pos (length bytes)));
       }
-  listed (box facility level time text dictionary fragment) h =
+  listed (box facility level time text dictionary fragment caller) h =
       let k = length text + length dictionary in
       record {
-        answer = boxWrite (s .log) (s .buffer) facility level time text dictionary fragment .answer;
+        answer = boxWrite (s .log) (s .buffer) facility level time text dictionary fragment caller .answer;
         answers = refl;
         exactly =
-            exact (box facility level time text dictionary fragment) k _
+            exact (box facility level time text dictionary fragment caller) k _
             (write-number (s .log) (s .buffer) _ k _
             ∙ ruled-number (λ v. boxRuling v facility level text dictionary) (pos k)
             ∙ first-box wrong (ltb facilityMost facility) (ltb levelMost level) (ltb payloadMost k) (not (isDictionary dictionary)) (eqb (nextOf view) wordMost) (pos k));

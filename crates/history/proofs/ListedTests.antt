@@ -23,9 +23,9 @@ use Rattle.store.proofs.StoredLaws.{length-bytes}
 use Rattle.image.specs.Block.{blockSize}
 use Rattle.image.specs.Coding.{joined}
 use Rattle.image.specs.Image.{blocksFor, image}
-use Rattle.image.specs.Plain.{plain, edition}
+use Rattle.image.specs.Editions.{coded, savedEdition}
 use Rattle.image.proofs.StreamLaws.{length-blocks}
-use Rattle.image.proofs.PlainLaws.{joined-is}
+use Rattle.image.proofs.EditionLaws.{joined-is}
 use Rattle.savedtrail.specs.Save.{imageFor}
 use Rattle.syslog.specs.Command.{copies, isKnown, isPermitted, wantsLevel}
 use Rattle.syslog.specs.declared.Asked.{Asked}
@@ -212,6 +212,6 @@ whence-says z = not-says (one-says z (0 ∷ 2 ∷ 3 ∷ []))
 pub length-image : (v : View) (number : ℕ) → length (imageFor v number) ≡ blockSize * blocksFor (total (v .records))
 unfolding imageFor image
 length-image v number =
-    let s = joined plain (v .records) in
-    length-blocks (blocksFor (length s)) edition 0 number s
+    let s = joined (coded savedEdition) (v .records) in
+    length-blocks (blocksFor (length s)) savedEdition 0 number s
     ∙ ap (λ (n : ℕ). blockSize * blocksFor n) (ap length (joined-is (v .records)) ∙ length-bytes (v .records))

@@ -132,8 +132,8 @@ extends-there p false r readers = extends-self (p .all)
 
 extends-step : (p : Past) (c : Call) → Extends (p .all) (pastStep p c .past .all)
 unfolding pastStep
-extends-step p (outside time bytes) = extends-write p _ _ (outsideRuling (held p) bytes)
-extends-step p (box facility level time text dictionary fragment) = extends-write p _ _ (boxRuling (held p) facility level text dictionary)
+extends-step p (outside time bytes caller) = extends-write p _ _ (outsideRuling (held p) bytes)
+extends-step p (box facility level time text dictionary fragment caller) = extends-write p _ _ (boxRuling (held p) facility level text dictionary)
 extends-step p make = extends-self (p .all)
 extends-step p (place i n) = extends-self (p .all)
 extends-step p (read i lent) = extends-there p (ltb i (length (p .readers))) _ _
@@ -175,9 +175,9 @@ module _ (p : Past) (i : ℕ) (h : i < length (p .readers)) where
   -- every call but its own reads, its own seeks and setting it by hand
   keeps-step : (c : Call) → OnlyReads i c → Keeps p i (pastStep p c .past)
   unfolding pastStep
-  keeps-step (outside time bytes) l = keeps-write (outsideRecord (nextNumber p) time bytes) (length bytes) (outsideRuling (held p) bytes)
-  keeps-step (box facility level time text dictionary fragment) l =
-      keeps-write (boxRecord (nextNumber p) time facility level text dictionary fragment) (length text + length dictionary)
+  keeps-step (outside time bytes caller) l = keeps-write (outsideRecord (nextNumber p) time bytes caller) (length bytes) (outsideRuling (held p) bytes)
+  keeps-step (box facility level time text dictionary fragment caller) l =
+      keeps-write (boxRecord (nextNumber p) time facility level text dictionary fragment caller) (length text + length dictionary)
       (boxRuling (held p) facility level text dictionary)
   keeps-step make l = record { there = simp length-append (omega arith); number = List·getD-append (p .readers) (firstHeld p ∷ []) 0 i h }
   keeps-step (place j n) l = keeps-set j n l
@@ -239,9 +239,9 @@ read-adds all p i j lent h x = go _ refl
 
 step-adds : (all : List Record) (p : Past) (i : ℕ) (c : Call) → i < length (p .readers) → Leaves i c → Extends (p .all) all
     → Adds all (getD (p .readers) i 0) (pastStep p c .past) i (callHeard i c (pastStep p c .reply))
-step-adds all p i (outside time bytes) h l x = keeps-adds all p i _ (keeps-step p i h (outside time bytes) tt)
-step-adds all p i (box facility level time text dictionary fragment) h l x =
-    keeps-adds all p i _ (keeps-step p i h (box facility level time text dictionary fragment) tt)
+step-adds all p i (outside time bytes caller) h l x = keeps-adds all p i _ (keeps-step p i h (outside time bytes caller) tt)
+step-adds all p i (box facility level time text dictionary fragment caller) h l x =
+    keeps-adds all p i _ (keeps-step p i h (box facility level time text dictionary fragment caller) tt)
 step-adds all p i make h l x = keeps-adds all p i _ (keeps-step p i h make tt)
 step-adds all p i (place j n) h l x = keeps-adds all p i _ (keeps-step p i h (place j n) l)
 step-adds all p i (read j lent) h l x = read-adds all p i j lent h x

@@ -10,7 +10,7 @@ use lib.IntN.{ℤ, pos}
 use lib.ListN
 use lib.ListN.{length, length-append}
 use Rattle.console.specs.Console.{savedFits, settingFits}
-use Rattle.record.specs.Limits.{capacityLeast, wordMost}
+use Rattle.record.specs.Limits.{capacityLeast, wordMost, callerMost}
 use Rattle.record.specs.Record.{Record, cost}
 use Rattle.log.specs.Answer.{Ruling, allowed, refused}
 use Rattle.log.specs.View.{Marks, View, nextOf}
@@ -59,20 +59,20 @@ module _ (p : Past) (s : Sound p) where
   below : (nextOf (held p) ≡ wordMost → ⊥) → nextNumber p < wordMost
   below h = omega (arith, next-held p, s .word, h)
 
-  pub outside-ready : (time : ℕ) (bytes : List ℕ) → time ≤ wordMost → outsideRuling (held p) bytes ≡ allowed
-      → Ready p (outsideRecord (nextNumber p) time bytes)
-  outside-ready time bytes t e =
+  pub outside-ready : (time : ℕ) (bytes : List ℕ) (caller : ℕ) → (time ≤ wordMost) × (caller ≤ callerMost) → outsideRuling (held p) bytes ≡ allowed
+      → Ready p (outsideRecord (nextNumber p) time bytes caller)
+  outside-ready time bytes caller t e =
       record {
-        storable = outside-storable (held p) (nextNumber p) time bytes e t (s .word);
-        last = below (outside-next (held p) (nextNumber p) time bytes e);
+        storable = outside-storable (held p) (nextNumber p) time bytes caller e (t .0) (t .1) (s .word);
+        last = below (outside-next (held p) (nextNumber p) time bytes caller e);
       }
 
-  pub box-ready : (facility level time : ℕ) (text dictionary : List ℕ) (fragment : Bool) → time ≤ wordMost → boxRuling (held p) facility level text dictionary ≡ allowed
-      → Ready p (boxRecord (nextNumber p) time facility level text dictionary fragment)
-  box-ready facility level time text dictionary fragment t e =
+  pub box-ready : (facility level time : ℕ) (text dictionary : List ℕ) (fragment : Bool) (caller : ℕ) → (time ≤ wordMost) × (caller ≤ callerMost) → boxRuling (held p) facility level text dictionary ≡ allowed
+      → Ready p (boxRecord (nextNumber p) time facility level text dictionary fragment caller)
+  box-ready facility level time text dictionary fragment caller t e =
       record {
-        storable = box-storable (held p) (nextNumber p) facility level time text dictionary fragment e t (s .word);
-        last = below (box-next (held p) (nextNumber p) facility level time text dictionary fragment e);
+        storable = box-storable (held p) (nextNumber p) facility level time text dictionary fragment caller e (t .0) (t .1) (s .word);
+        last = below (box-next (held p) (nextNumber p) facility level time text dictionary fragment caller e);
       }
 
   -- ---- writes
@@ -127,11 +127,11 @@ module _ (p : Past) (s : Sound p) where
 
 pub sound-step : (p : Past) (c : Call) → Sound p → Timed c → Sound (pastStep p c .past)
 unfolding pastStep
-sound-step p (outside time bytes) s t =
-    sound-write p s (outsideRecord (nextNumber p) time bytes) (length bytes) (outsideRuling (held p) bytes) (outside-ready p s time bytes t)
-sound-step p (box facility level time text dictionary fragment) s t =
-    sound-write p s (boxRecord (nextNumber p) time facility level text dictionary fragment) (length text + length dictionary)
-    (boxRuling (held p) facility level text dictionary) (box-ready p s facility level time text dictionary fragment t)
+sound-step p (outside time bytes caller) s t =
+    sound-write p s (outsideRecord (nextNumber p) time bytes caller) (length bytes) (outsideRuling (held p) bytes) (outside-ready p s time bytes caller t)
+sound-step p (box facility level time text dictionary fragment caller) s t =
+    sound-write p s (boxRecord (nextNumber p) time facility level text dictionary fragment caller) (length text + length dictionary)
+    (boxRuling (held p) facility level text dictionary) (box-ready p s facility level time text dictionary fragment caller t)
 sound-step p make s t = sound-readers p s (p .readers ++ (firstHeld p ∷ []))
 sound-step p (place i n) s t = sound-readers p s (lib.ListN.set (p .readers) i n)
 sound-step p (read i lent) s t = sound-there p s (ltb i (length (p .readers))) _ _

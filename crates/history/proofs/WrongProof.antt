@@ -92,8 +92,8 @@ module _ (onWrite : View → List ℕ → Ruling) (onBox : View → ℕ → ℕ 
 
   -- what the writes and a command do answer
   module _ (bytes : List ℕ) (q : Ruling) (e : onWrite (view n) bytes ≡ q) where
-    abbrev written : At (outside 0 bytes)
-    written = f (empty n) (bytes-of n) (outside 0 bytes) tt
+    abbrev written : At (outside 0 bytes 0)
+    written = f (empty n) (bytes-of n) (outside 0 bytes 0) tt
 
     write-answers : numberBy (pos (length bytes)) q ≡ written .answer
     write-answers =
@@ -102,8 +102,8 @@ module _ (onWrite : View → List ℕ → Ruling) (onBox : View → ℕ → ℕ 
         ∙ written .answers
 
   module _ (text : List ℕ) (q : Ruling) (e : onBox (view n) 0 0 text [] ≡ q) where
-    abbrev boxed : At (box 0 0 0 text [] false)
-    boxed = f (empty n) (bytes-of n) (box 0 0 0 text [] false) tt
+    abbrev boxed : At (box 0 0 0 text [] false 0)
+    boxed = f (empty n) (bytes-of n) (box 0 0 0 text [] false 0) tt
 
     box-answers : numberBy (pos (length text + 0)) q ≡ boxed .answer
     box-answers =
@@ -123,7 +123,7 @@ module _ (onWrite : View → List ℕ → Ruling) (onBox : View → ℕ → ℕ 
 
 -- ---- each of them
 
-no-write-over : {failing : Type 0} {v : View} {readers : List ℕ} → Applies failing v readers (outside 0 []) EINVAL → ⊥
+no-write-over : {failing : Type 0} {v : View} {readers : List ℕ} → Applies failing v readers (outside 0 [] 0) EINVAL → ⊥
 no-write-over h = elim h [ over-960 g ↦ absurd (omega arith) | zero-byte g ↦ g ]
 
 all-refused : AsListed (ruledBy refuseAll boxRuling commandRuling) → ⊥
@@ -134,7 +134,7 @@ all-refused f =
 long : List ℕ
 long = replicate 961 97
 
-long-over : {failing : Type 0} {v : View} {readers : List ℕ} → Applies failing v readers (outside 0 long) EINVAL
+long-over : {failing : Type 0} {v : View} {readers : List ℕ} → Applies failing v readers (outside 0 long 0) EINVAL
 unfolding long
 long-over =
     let h : payloadMost < length long = omega arith in
@@ -150,14 +150,14 @@ overflow-refused f =
 
 module _ (bytes : List ℕ) where
   abbrev Row : Refusal → Type 0
-  Row e = Applies (checked (empty 0 .log) (empty 0 .buffer) ≡ Fine → ⊥) (view 0) (empty 0 .readers) (outside 0 bytes) e
+  Row e = Applies (checked (empty 0 .log) (empty 0 .buffer) ≡ Fine → ⊥) (view 0) (empty 0 .readers) (outside 0 bytes 0) e
 
   -- no row before -22 applies to a write from outside, on the log whose next number is 0
   none-before : (e : Refusal) → Earlier e EINVAL table → Row e → ⊥
   none-before EBADFD k h = elim h [ check-fails g ↦ g (empty-fine 0) ]
   none-before EPERM k h = elim h [ ]
   none-before ESPIPE k h = elim h [ ]
-  none-before EINVAL k h = rows-apart (outside 0 bytes) 0 .once EINVAL k
+  none-before EINVAL k h = rows-apart (outside 0 bytes 0) 0 .once EINVAL k
   none-before EFAULT k h = elim h [ ]
   none-before EOVERFLOW k h = elim h [ outside-at-last e ↦ absurd (omega (arith, e, next-is 0)) ]
   none-before EPIPE k h = elim h [ ]
@@ -178,7 +178,7 @@ byte-refused = taken-refused long oneByteMore (rw (next-is 0)) long-over
 zero-refused : AsListed (ruledBy zeroTaken boxRuling commandRuling) → ⊥
 zero-refused = taken-refused (0 ∷ []) zeroTaken (rw (next-is 0)) (zero-byte (inl refl))
 
-box-right : {failing : Type 0} {v : View} {readers : List ℕ} → Applies failing v readers (box 0 0 0 (0 ∷ []) [] false) EINVAL → ⊥
+box-right : {failing : Type 0} {v : View} {readers : List ℕ} → Applies failing v readers (box 0 0 0 (0 ∷ []) [] false 0) EINVAL → ⊥
 box-right h = elim h [
   | over-960-together g ↦ absurd (omega arith)
   | bad-facility g ↦ absurd (omega arith)
@@ -264,8 +264,8 @@ nine-refused f =
 
 ours : (s : State) (c : Call) → ruledBy outsideRuling boxRuling commandRuling s c ≡ answered s c
 unfolding step outsideWrite boxWrite commanding
-ours s (outside time bytes) = refl
-ours s (box facility level time text dictionary fragment) = refl
+ours s (outside time bytes caller) = refl
+ours s (box facility level time text dictionary fragment caller) = refl
 ours s make = refl
 ours s (place i n) = refl
 ours s (read i lent) = refl
@@ -278,8 +278,8 @@ ours s (console level setting) = refl
 
 ours-saving : (s : State) (c : Call) → savesBy saveRuling s c ≡ answered s c
 unfolding step saving
-ours-saving s (outside time bytes) = refl
-ours-saving s (box facility level time text dictionary fragment) = refl
+ours-saving s (outside time bytes caller) = refl
+ours-saving s (box facility level time text dictionary fragment caller) = refl
 ours-saving s make = refl
 ours-saving s (place i n) = refl
 ours-saving s (read i lent) = refl
@@ -292,8 +292,8 @@ ours-saving s (console level setting) = refl
 
 ours-minimum : (s : State) (c : Call) → minimumRuledBy minimumRuling s c ≡ answered s c
 unfolding step settingMinimum
-ours-minimum s (outside time bytes) = refl
-ours-minimum s (box facility level time text dictionary fragment) = refl
+ours-minimum s (outside time bytes caller) = refl
+ours-minimum s (box facility level time text dictionary fragment caller) = refl
 ours-minimum s make = refl
 ours-minimum s (place i n) = refl
 ours-minimum s (read i lent) = refl

@@ -52,8 +52,8 @@ tellsOvertaken (negsuc n) = eqb n 31
 
 -- the lent buffer that is handed over, and as it comes back
 abbrev pub lentTo : Call → List ℕ
-lentTo (outside time bytes) = []
-lentTo (box facility level time text dictionary fragment) = []
+lentTo (outside time bytes caller) = []
+lentTo (box facility level time text dictionary fragment caller) = []
 lentTo make = []
 lentTo (place i n) = []
 lentTo (read i lent) = lent
@@ -77,8 +77,8 @@ lentBack nobody = []
 
 -- what a refusal leaves: a reader told -32 on a read is set to first
 abbrev pub leftBy : State → Call → ℤ → State
-leftBy s (outside time bytes) n = s
-leftBy s (box facility level time text dictionary fragment) n = s
+leftBy s (outside time bytes caller) n = s
+leftBy s (box facility level time text dictionary fragment caller) n = s
 leftBy s make n = s
 leftBy s (place i m) n = s
 leftBy s (read i lent) n = cond (tellsOvertaken n) (withReaders s (lib.ListN.set (s .readers) i (s .log .first .0))) s

@@ -23,8 +23,8 @@ ordered type o = command (record { command = pos type; len = o .len; privilege =
 
 -- any call but a command 7 with privilege; one without is refused
 abbrev pub NotOn : Call → Type 0
-NotOn (outside time bytes) = Unit {0}
-NotOn (box facility level time text dictionary fragment) = Unit {0}
+NotOn (outside time bytes caller) = Unit {0}
+NotOn (box facility level time text dictionary fragment caller) = Unit {0}
 NotOn make = Unit {0}
 NotOn (place i n) = Unit {0}
 NotOn (read i lent) = Unit {0}

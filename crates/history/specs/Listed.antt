@@ -59,18 +59,18 @@ pub data Applies (fails : Type 0) (v : View) (readers : List ℕ) : Call → Ref
   -- a minimum outside 1..8 (document 02, ticket 4);
   minimum-outside : {wanted : ℤ} → ((n : ℕ) → 1 ≤ n → n ≤ 8 → wanted ≡ pos n → ⊥) → Applies fails v readers (minimum wanted) EINVAL
   -- over 960 bytes;
-  over-960 : {time : ℕ} {bytes : List ℕ} → 960 < length bytes → Applies fails v readers (outside time bytes) EINVAL
-  over-960-together : {facility level time : ℕ} {text dictionary : List ℕ} {fragment : Bool} → 960 < length text + length dictionary
-      → Applies fails v readers (box facility level time text dictionary fragment) EINVAL
+  over-960 : {time : ℕ} {bytes : List ℕ} {caller : ℕ} → 960 < length bytes → Applies fails v readers (outside time bytes caller) EINVAL
+  over-960-together : {facility level time : ℕ} {text dictionary : List ℕ} {fragment : Bool} {caller : ℕ} → 960 < length text + length dictionary
+      → Applies fails v readers (box facility level time text dictionary fragment caller) EINVAL
   -- a zero byte among the bytes handed in from outside (document 02, ticket 1);
-  zero-byte : {time : ℕ} {bytes : List ℕ} → In 0 bytes → Applies fails v readers (outside time bytes) EINVAL
+  zero-byte : {time : ℕ} {bytes : List ℕ} {caller : ℕ} → In 0 bytes → Applies fails v readers (outside time bytes caller) EINVAL
   -- bad facility, level or dictionary;
-  bad-facility : {facility level time : ℕ} {text dictionary : List ℕ} {fragment : Bool} → 255 < facility
-      → Applies fails v readers (box facility level time text dictionary fragment) EINVAL
-  bad-level : {facility level time : ℕ} {text dictionary : List ℕ} {fragment : Bool} → 7 < level
-      → Applies fails v readers (box facility level time text dictionary fragment) EINVAL
-  bad-dictionary : {facility level time : ℕ} {text dictionary : List ℕ} {fragment : Bool} → (Dictionary dictionary → ⊥)
-      → Applies fails v readers (box facility level time text dictionary fragment) EINVAL
+  bad-facility : {facility level time : ℕ} {text dictionary : List ℕ} {fragment : Bool} {caller : ℕ} → 255 < facility
+      → Applies fails v readers (box facility level time text dictionary fragment caller) EINVAL
+  bad-level : {facility level time : ℕ} {text dictionary : List ℕ} {fragment : Bool} {caller : ℕ} → 7 < level
+      → Applies fails v readers (box facility level time text dictionary fragment caller) EINVAL
+  bad-dictionary : {facility level time : ℕ} {text dictionary : List ℕ} {fragment : Bool} {caller : ℕ} → (Dictionary dictionary → ⊥)
+      → Applies fails v readers (box facility level time text dictionary fragment caller) EINVAL
   -- line longer than reader's buffer
   line-longer : {i : ℕ} {lent : List ℕ} → length lent < length (kmsgLine (recordAt v (getD readers i 0)))
       → Applies fails v readers (read i lent) EINVAL
@@ -82,9 +82,9 @@ pub data Applies (fails : Type 0) (v : View) (readers : List ℕ) : Call → Ref
       → ((blocks : ℕ) → 1 ≤ blocks → total (v .records) ≤ 496 * blocks → length lent < 512 * blocks)
       → Applies fails v readers (save number lent) EFAULT
   -- -75 EOVERFLOW: write when next is 2^64 - 1
-  outside-at-last : {time : ℕ} {bytes : List ℕ} → nextOf v ≡ 2 ^ 64 - 1 → Applies fails v readers (outside time bytes) EOVERFLOW
-  box-at-last : {facility level time : ℕ} {text dictionary : List ℕ} {fragment : Bool} → nextOf v ≡ 2 ^ 64 - 1
-      → Applies fails v readers (box facility level time text dictionary fragment) EOVERFLOW
+  outside-at-last : {time : ℕ} {bytes : List ℕ} {caller : ℕ} → nextOf v ≡ 2 ^ 64 - 1 → Applies fails v readers (outside time bytes caller) EOVERFLOW
+  box-at-last : {facility level time : ℕ} {text dictionary : List ℕ} {fragment : Bool} {caller : ℕ} → nextOf v ≡ 2 ^ 64 - 1
+      → Applies fails v readers (box facility level time text dictionary fragment caller) EOVERFLOW
   -- -32 EPIPE: reader's number below first
   below-first : {i : ℕ} {lent : List ℕ} → getD readers i 0 < v .first → Applies fails v readers (read i lent) EPIPE
   -- -11 EAGAIN: reader at next;
@@ -100,8 +100,8 @@ abbrev pub readTable : List Refusal
 readTable = EBADFD ∷ EPERM ∷ ESPIPE ∷ EFAULT ∷ EOVERFLOW ∷ EPIPE ∷ EAGAIN ∷ EINVAL ∷ []
 
 abbrev pub order : Call → List Refusal
-order (outside time bytes) = table
-order (box facility level time text dictionary fragment) = table
+order (outside time bytes caller) = table
+order (box facility level time text dictionary fragment caller) = table
 order make = table
 order (place i n) = table
 order (read i lent) = readTable
@@ -116,8 +116,8 @@ order (console level setting) = table
 
 -- the calls that answer a number, by a reader that there is
 abbrev pub Asking : List ℕ → Call → Type 0
-Asking readers (outside time bytes) = Unit {0}
-Asking readers (box facility level time text dictionary fragment) = Unit {0}
+Asking readers (outside time bytes caller) = Unit {0}
+Asking readers (box facility level time text dictionary fragment caller) = Unit {0}
 Asking readers make = ⊥
 Asking readers (place i n) = ⊥
 Asking readers (read i lent) = i < length readers

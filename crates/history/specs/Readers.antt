@@ -57,8 +57,8 @@ replyHeard nobody = []
 
 -- what reader i hears of a call
 abbrev pub callHeard : ℕ → Call → Reply → List Heard
-callHeard i (outside time bytes) r = []
-callHeard i (box facility level time text dictionary fragment) r = []
+callHeard i (outside time bytes caller) r = []
+callHeard i (box facility level time text dictionary fragment caller) r = []
 callHeard i make r = []
 callHeard i (place j n) r = []
 callHeard i (read j lent) r = cond (eqb j i) (replyHeard r) []
@@ -76,8 +76,8 @@ heard i (c ∷ cs) (r ∷ rs) = callHeard i c r ++ heard i cs rs
 
 -- no seek of reader i, and its number is not set by hand
 abbrev pub Leaves : ℕ → Call → Type 0
-Leaves i (outside time bytes) = Unit {0}
-Leaves i (box facility level time text dictionary fragment) = Unit {0}
+Leaves i (outside time bytes caller) = Unit {0}
+Leaves i (box facility level time text dictionary fragment caller) = Unit {0}
 Leaves i make = Unit {0}
 Leaves i (place j n) = i ≡ j → ⊥
 Leaves i (read j lent) = Unit {0}
@@ -112,8 +112,8 @@ NumberedInOrder = (capacity : ℕ) → capacityLeast ≤ capacity → (cs : List
 -- ---- writes, commands and other readers don't move a reader
 
 abbrev pub OnlyReads : ℕ → Call → Type 0
-OnlyReads i (outside time bytes) = Unit {0}
-OnlyReads i (box facility level time text dictionary fragment) = Unit {0}
+OnlyReads i (outside time bytes caller) = Unit {0}
+OnlyReads i (box facility level time text dictionary fragment caller) = Unit {0}
 OnlyReads i make = Unit {0}
 OnlyReads i (place j n) = i ≡ j → ⊥
 OnlyReads i (read j lent) = i ≡ j → ⊥
@@ -128,7 +128,7 @@ abbrev pub Unmoved : Type 0
 Unmoved = (p : Past) (i : ℕ) → i < length (p .readers) → (c : Call) → OnlyReads i c
     → getD (pastStep p c .past .readers) i 0 ≡ getD (p .readers) i 0
 
--- ---- a write drops at most 41 records
+-- ---- a write drops at most 31 records
 
 abbrev pub FewDropped : Reply → Type 0
 FewDropped (wrote a dropped) = dropped ≤ droppedMost

@@ -23,13 +23,13 @@ use Rattle.history.specs.Listed.{AsListed, answered}
 
 -- our log, but for the rulings on a write from outside, on one from the box and on a command
 abbrev pub ruledBy : (View → List ℕ → Ruling) → (View → ℕ → ℕ → List ℕ → List ℕ → Ruling) → (View → Asked → List ℕ → Ruling) → State → Call → Reply
-ruledBy onWrite onBox onCommand s (outside time bytes) =
+ruledBy onWrite onBox onCommand s (outside time bytes caller) =
     afterWrite (s .readers)
-    (writeBy (s .log) (s .buffer) (outsideRecord (s .log .next .0) time bytes) (length bytes) (ruled (s .log) (s .buffer) (λ v. onWrite v bytes)))
+    (writeBy (s .log) (s .buffer) (outsideRecord (s .log .next .0) time bytes caller) (length bytes) (ruled (s .log) (s .buffer) (λ v. onWrite v bytes)))
     .reply
-ruledBy onWrite onBox onCommand s (box facility level time text dictionary fragment) =
+ruledBy onWrite onBox onCommand s (box facility level time text dictionary fragment caller) =
     afterWrite (s .readers)
-    (writeBy (s .log) (s .buffer) (boxRecord (s .log .next .0) time facility level text dictionary fragment) (length text + length dictionary)
+    (writeBy (s .log) (s .buffer) (boxRecord (s .log .next .0) time facility level text dictionary fragment caller) (length text + length dictionary)
     (ruled (s .log) (s .buffer) (λ v. onBox v facility level text dictionary)))
     .reply
 ruledBy onWrite onBox onCommand s make = answered s make
@@ -79,8 +79,8 @@ invalidFirst v a lent =
 
 -- our log, but for the ruling on saving
 abbrev pub savesBy : (View → ℕ → List ℕ → Ruling) → State → Call → Reply
-savesBy onSave s (outside time bytes) = answered s (outside time bytes)
-savesBy onSave s (box facility level time text dictionary fragment) = answered s (box facility level time text dictionary fragment)
+savesBy onSave s (outside time bytes caller) = answered s (outside time bytes caller)
+savesBy onSave s (box facility level time text dictionary fragment caller) = answered s (box facility level time text dictionary fragment caller)
 savesBy onSave s make = answered s make
 savesBy onSave s (place i n) = answered s (place i n)
 savesBy onSave s (read i lent) = answered s (read i lent)
@@ -98,8 +98,8 @@ anyBuffer v number lent = allowed
 
 -- our log, but for the ruling on the minimum
 abbrev pub minimumRuledBy : (ℤ → Ruling) → State → Call → Reply
-minimumRuledBy onMinimum s (outside time bytes) = answered s (outside time bytes)
-minimumRuledBy onMinimum s (box facility level time text dictionary fragment) = answered s (box facility level time text dictionary fragment)
+minimumRuledBy onMinimum s (outside time bytes caller) = answered s (outside time bytes caller)
+minimumRuledBy onMinimum s (box facility level time text dictionary fragment caller) = answered s (box facility level time text dictionary fragment caller)
 minimumRuledBy onMinimum s make = answered s make
 minimumRuledBy onMinimum s (place i n) = answered s (place i n)
 minimumRuledBy onMinimum s (read i lent) = answered s (read i lent)

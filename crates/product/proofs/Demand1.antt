@@ -19,8 +19,8 @@ use Rattle.record.specs.Record.{Record}
 use Rattle.console.specs.Console.{isLevel, levelSet, setTo, minimumSet, withMinimum, setNumber}
 use Rattle.console.specs.declared.Console.{Console}
 use Rattle.image.specs.Read.{Turn, taken, over}
-use Rattle.image.specs.Plain.{plain, edition}
-use Rattle.savedtrail.specs.Reader.{AfterNext, turnAt, nextBy, nextWith, asRecord, nextOf}
+use Rattle.image.specs.Editions.{coded}
+use Rattle.savedtrail.specs.Reader.{AfterNext, editionFor, turnAt, nextBy, nextWith, asRecord, nextOf}
 use Rattle.savedtrail.specs.declared.Reader.{Reader}
 use Rattle.savedtrail.specs.declared.Told.the-variants.{Room}
 use Rattle.message.specs.Message.{ROOM, BULK, text, dictionary, refusal, reading}
@@ -210,13 +210,16 @@ module _ (input buffer out : List ℕ) where
 -- ---- the trail reader
 
 module _ (q : Reader) (file result : List ℕ) where
+  abbrev edition : ℕ
+  edition = editionFor (q .blocks) file
+
   -- a result buffer that is too short is told before the turn is looked at
   abbrev next-by : Bool → Turn Record → AfterNext
   next-by t x = cond t (record { told = Room; reader = q; result = result }) (nextBy asRecord edition q file result x)
 
   trail-known : Known (trailTold (nextOf q file result .told))
   unfolding nextWith nextBy
-  trail-known = go (ltb (length result) payloadMost) (turnAt plain edition q file)
+  trail-known = go (ltb (length result) payloadMost) (turnAt (coded edition) edition q file)
     where
       go : (t : Bool) (x : Turn Record) → Known (trailTold (next-by t x .told))
       go true x = tt
@@ -226,7 +229,7 @@ module _ (q : Reader) (file result : List ℕ) where
   trail-left : Refuses (trailTold (nextOf q file result .told))
       → (nextOf q file result .reader ≡ q) × (nextOf q file result .result ≡ result)
   unfolding nextWith nextBy
-  trail-left = go (ltb (length result) payloadMost) (turnAt plain edition q file)
+  trail-left = go (ltb (length result) payloadMost) (turnAt (coded edition) edition q file)
     where
       go : (t : Bool) (x : Turn Record) → Refuses (trailTold (next-by t x .told)) → (next-by t x .reader ≡ q) × (next-by t x .result ≡ result)
       go true x f = (refl, refl)
@@ -235,7 +238,7 @@ module _ (q : Reader) (file result : List ℕ) where
 
   trail-short : trailTold (nextOf q file result .told) ≡ cond (ltb (length result) 960) noRoom other
   unfolding nextWith nextBy
-  trail-short = go (ltb (length result) payloadMost) (turnAt plain edition q file)
+  trail-short = go (ltb (length result) payloadMost) (turnAt (coded edition) edition q file)
     where
       go : (t : Bool) (x : Turn Record) → trailTold (next-by t x .told) ≡ cond t noRoom other
       go true x = refl
