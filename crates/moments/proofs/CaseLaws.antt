@@ -1,5 +1,5 @@
 -- A case on a fresh log, by computing the history, with which the log agrees; what calls leave over any bytes, by computing over bytes that are named.
-use Prim.Native.Nat.{ℕ, zero, suc, _+_}
+use Prim.Native.Nat.{ℕ, zero, suc, _+_, _≤_}
 use mathlib.Core.Path.{_≡_, refl, ap, _∙_}
 use mathlib.Core.Bool.{Bool, true, _&&_}
 use mathlib.Core.List.{List, [], _∷_, map}
@@ -11,7 +11,7 @@ use lib.ListN.{length, getD}
 use Rattle.slices.specs.Tests.{every}
 use Rattle.slices.proofs.Bools.{and-left, and-right, every-first, every-other}
 use Rattle.console.specs.declared.Console.{Console}
-use Rattle.record.specs.Limits.{wordMost}
+use Rattle.record.specs.Limits.{wordMost, callerMost}
 use Rattle.log.specs.View.{Marks, View}
 use Rattle.log.specs.Check.{freshLog, marksOf, viewOf}
 use Rattle.log.specs.Excess.{total}
@@ -24,11 +24,11 @@ use Rattle.history.proofs.Demand2.{Agrees, first-is, next-is, setting-is, agree
 use Rattle.moments.specs.Case.{Outcome, outcomeOf, callOf, sightOf, Calls, outcome, GivesFrom, Numbers, numbersOf, Left, leftBy, Leaves, LeavesFrom, Change, stepOf, seenOf, changesBy, Changes}
 use Rattle.moments.proofs.LyingLaws.{Lying, lyingIn, lyingAfter, lies-after}
 
--- ---- times of 64 bits, by a test
+-- ---- times of 64 bits and callers of 32, by a test
 
 unfoldable pub isTimed : Call → Bool
-isTimed (outside time bytes) = leb time wordMost
-isTimed (box facility level time text dictionary fragment) = leb time wordMost
+isTimed (outside time bytes caller) = leb time wordMost && leb caller callerMost
+isTimed (box facility level time text dictionary fragment caller) = leb time wordMost && leb caller callerMost
 isTimed make = true
 isTimed (place i n) = true
 isTimed (read i lent) = true
@@ -39,10 +39,13 @@ isTimed (minimum wanted) = true
 isTimed check = true
 isTimed (console level setting) = true
 
+in-width : (time caller : ℕ) → leb time wordMost && leb caller callerMost ≡ true → (time ≤ wordMost) × (caller ≤ callerMost)
+in-width time caller e = (leb-true time wordMost (and-left _ _ e), leb-true caller callerMost (and-right (leb time wordMost) _ e))
+
 timed : (c : Call) → isTimed c ≡ true → Timed c
 unfolding isTimed
-timed (outside time bytes) e = leb-true time wordMost e
-timed (box facility level time text dictionary fragment) e = leb-true time wordMost e
+timed (outside time bytes caller) e = in-width time caller e
+timed (box facility level time text dictionary fragment caller) e = in-width time caller e
 timed make e = tt
 timed (place i n) e = tt
 timed (read i lent) e = tt

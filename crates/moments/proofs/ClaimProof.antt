@@ -35,6 +35,7 @@ use Rattle.moments.specs.Pairs.{together, eperm-before-einval, efault-be
 use Rattle.moments.specs.Console.{anthem, nothing-saved, twice, set-between, more-between, under-five, below-it, minimum-refused, without-privilege, levels}
 use Rattle.moments.specs.Lines.{sheets, five-texts, team-sheet, cut-lines, last-lines, longest-form}
 use Rattle.moments.specs.Fragments.{fragments, in-pieces, fragments-refused, flag-stored}
+use Rattle.moments.specs.Callers.{who-wrote, caller-stored, caller-over, callers}
 use Rattle.moments.specs.Claim.{Claim}
 use Rattle.moments.proofs.CaseLaws.{isTimed, pastOutcome, sight, on-fresh, pastChanges, changed, on-changes, listed, pastNumbers, sightLeft, lyingLeft, on-any}
 use Rattle.moments.proofs.LyingLaws.{laid, lyingWrite, lyingStep, lyingAfter}
@@ -211,6 +212,24 @@ fragments-agree =
     and refl
     and done
 
+callers-agree : AllAgree callers
+unfolding the-definitions
+callers-agree =
+    on-fresh who-wrote refl
+    and on-any caller-stored refl (λ f. refl)
+    and on-any caller-over refl (λ f. refl)
+    and refl
+    and refl
+    and refl
+    and refl
+    and refl
+    and refl
+    and refl
+    and refl
+    and refl
+    and refl
+    and done
+
 pub all-agree : Claim
 all-agree =
     record {
@@ -222,4 +241,5 @@ all-agree =
       console = levels-agree;
       syslog = sheets-agree;
       flags = fragments-agree;
+      caller = callers-agree;
     }

@@ -86,9 +86,9 @@ lyingWrite v y r allowed =
 lyingWrite v y r (refused why) = y
 
 unfoldable pub lyingStep : Past → Lying → Call → Lying
-lyingStep p y (outside time bytes) = lyingWrite (held p) y (outsideRecord (nextNumber p) time bytes) (outsideRuling (held p) bytes)
-lyingStep p y (box facility level time text dictionary fragment) =
-    lyingWrite (held p) y (boxRecord (nextNumber p) time facility level text dictionary fragment)
+lyingStep p y (outside time bytes caller) = lyingWrite (held p) y (outsideRecord (nextNumber p) time bytes caller) (outsideRuling (held p) bytes)
+lyingStep p y (box facility level time text dictionary fragment caller) =
+    lyingWrite (held p) y (boxRecord (nextNumber p) time facility level text dictionary fragment caller)
     (boxRuling (held p) facility level text dictionary)
 lyingStep p y make = y
 lyingStep p y (place i n) = y
@@ -159,16 +159,16 @@ lies-either false x y e = refl
 
 pub lies-step : (s : State) (p : Past) (c : Call) → Agrees s p → Sound p → Timed c → lyingIn (step s c .state) ≡ lyingStep p (lyingIn s) c
 unfolding step lyingStep outsideWrite boxWrite commanding settingMinimum withMarks
-lies-step s p (outside time bytes) a ok t =
-    rw (ruled-is s p a ok (λ v. outsideRuling v bytes), ap (λ (n : ℕ). outsideRecord n time bytes) (next-is s p a ok))
-    (lies-write s p a ok (outsideRecord (nextNumber p) time bytes) (length bytes) (outsideRuling (held p) bytes) (outside-ready p ok time bytes t))
-lies-step s p (box facility level time text dictionary fragment) a ok t =
+lies-step s p (outside time bytes caller) a ok t =
+    rw (ruled-is s p a ok (λ v. outsideRuling v bytes), ap (λ (n : ℕ). outsideRecord n time bytes caller) (next-is s p a ok))
+    (lies-write s p a ok (outsideRecord (nextNumber p) time bytes caller) (length bytes) (outsideRuling (held p) bytes) (outside-ready p ok time bytes caller t))
+lies-step s p (box facility level time text dictionary fragment caller) a ok t =
     rw (
       ruled-is s p a ok (λ v. boxRuling v facility level text dictionary),
-      ap (λ (n : ℕ). boxRecord n time facility level text dictionary fragment) (next-is s p a ok),
+      ap (λ (n : ℕ). boxRecord n time facility level text dictionary fragment caller) (next-is s p a ok),
     )
-    (lies-write s p a ok (boxRecord (nextNumber p) time facility level text dictionary fragment) (length text + length dictionary)
-    (boxRuling (held p) facility level text dictionary) (box-ready p ok facility level time text dictionary fragment t))
+    (lies-write s p a ok (boxRecord (nextNumber p) time facility level text dictionary fragment caller) (length text + length dictionary)
+    (boxRuling (held p) facility level text dictionary) (box-ready p ok facility level time text dictionary fragment caller t))
 lies-step s p make a ok t = refl
 lies-step s p (place i n) a ok t = refl
 lies-step s p (read i lent) a ok t = lies-either (ltb i (length (s .readers))) _ _ refl

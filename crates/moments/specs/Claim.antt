@@ -8,6 +8,7 @@ use Rattle.moments.specs.Pairs.{together}
 use Rattle.moments.specs.Console.{levels}
 use Rattle.moments.specs.Lines.{sheets}
 use Rattle.moments.specs.Fragments.{fragments}
+use Rattle.moments.specs.Callers.{callers}
 
 pub record Claim : Type 0 where
   -- T1 to T16
@@ -25,3 +26,5 @@ pub record Claim : Type 0 where
   pub syslog : AllAgree sheets
   -- writes that say they are fragments (document 02, ticket 6)
   pub flags : AllAgree fragments
+  -- a caller in every record (document 02, ticket 7)
+  pub caller : AllAgree callers

@@ -6,8 +6,8 @@ use lib.IntN.{ℤ, pos}
 use Rattle.console.specs.declared.Saved.{Saved}
 use Rattle.console.specs.declared.Saved.the-variants.{Nothing, Level}
 use Rattle.log.specs.declared.Verdict.the-variants.{Fine, Numbers}
-use Rattle.history.specs.Calls.{outside, read, seek, save, minimum, check, State, wrote, gave, sought, told, verdict}
-use Rattle.moments.specs.Case.{box, _gives_, hand, Calls, Change, change, setting, Case, calls, changes, minus, blank, asked, poor}
+use Rattle.history.specs.Calls.{read, seek, save, minimum, check, State, wrote, gave, sought, told, verdict}
+use Rattle.moments.specs.Case.{outside, box, _gives_, hand, Calls, Change, change, setting, Case, calls, changes, minus, blank, asked, poor}
 
 -- a command that is done, by type and len; then level, minimum and save
 abbrev done : ℕ → ℕ → ℕ → ℕ → Saved → Change
@@ -166,7 +166,7 @@ both-wrong least saved =
           hand (record {
             log = record {
               start = record { 0 = 0 };
-              used = 24;
+              used = 32;
               first = record { 0 = 0 };
               next = record { 0 = 1 };
               clear = record { 0 = 0 };
@@ -179,7 +179,7 @@ both-wrong least saved =
           });
       earlier = [];
       steps = check gives verdict Numbers ∷ minimum (pos 5) gives told (minus 77) [] ∷ [];
-      after = record { used = 24; first = 0; next = 1; level = 7 };
+      after = record { used = 32; first = 0; next = 1; level = 7 };
     }
 
 abbrev pub levels : List Case

@@ -7,4 +7,5 @@ pub mod Pairs
 pub mod Console
 pub mod Lines
 pub mod Fragments
+pub mod Callers
 pub mod Claim

@@ -7,8 +7,8 @@ use Rattle.slices.specs.Quoted.{quoted}
 use Rattle.console.specs.Console.{settingFresh}
 use Rattle.log.specs.declared.Verdict.{Verdict}
 use Rattle.log.specs.declared.Verdict.the-variants.{Fine, Numbers}
-use Rattle.history.specs.Calls.{outside, make, read, check, State, wrote, made, gave, told, verdict}
-use Rattle.moments.specs.Case.{box, _gives_, new, hand, Calls, callsOf, Case, calls, minus, blank, asked}
+use Rattle.history.specs.Calls.{make, read, check, State, wrote, made, gave, told, verdict}
+use Rattle.moments.specs.Case.{outside, box, _gives_, new, hand, Calls, callsOf, Case, calls, minus, blank, asked}
 
 -- "", newline, "a" newline, newline "a", two newlines: 6, 12, 13, 13 and 18 bytes
 abbrev pub five-texts : Calls
@@ -28,7 +28,7 @@ five-texts =
           ∷ asked 9 0 [] gives told (pos 62) []
           ∷ asked 3 62 (blank 63) gives told (pos 62) (quoted "<134>\n<134>\n<134>\n<134>a\n<134>\n<134>\n<134>a\n<134>\n<134>\n<134>\n" ++ blank 1)
           ∷ [];
-      after = record { used = 127; first = 0; next = 5; level = 7 };
+      after = record { used = 167; first = 0; next = 5; level = 7 };
     }
 
 -- from outside one final newline is dropped; the kmsg line does not change
@@ -43,9 +43,9 @@ team-sheet =
           ∷ asked 3 24 (blank 24) gives told (pos 0) (blank 24)
           ∷ asked 9 0 [] gives told (pos 24) []
           ∷ make gives made 0
-          ∷ read 0 (blank 40) gives gave (pos 27) 0 1 (quoted "134,0,0,-;home 1\\x0aaway 0\n" ++ blank 13)
+          ∷ read 0 (blank 49) gives gave (pos 36) 0 1 (quoted "134,0,0,-,caller=0;home 1\\x0aaway 0\n" ++ blank 13)
           ∷ [];
-      after = record { used = 37; first = 0; next = 1; level = 7 };
+      after = record { used = 45; first = 0; next = 1; level = 7 };
     }
 
 -- command 2 cut on each border of a later line, and inside its prefix
@@ -65,7 +65,7 @@ cut-lines =
           ∷ asked 2 9 (blank 9) gives told (pos 1) (quoted "\n" ++ blank 8)
           ∷ asked 2 1 (blank 1) gives told (minus 11) (blank 1)
           ∷ [];
-      after = record { used = 27; first = 0; next = 1; level = 7 };
+      after = record { used = 35; first = 0; next = 1; level = 7 };
     }
 
 -- command 3 likewise, from the end
@@ -80,7 +80,7 @@ last-lines =
           ∷ asked 3 7 (blank 7) gives told (pos 7) (quoted "\n<12>b\n")
           ∷ asked 3 12 (blank 12) gives told (pos 12) (quoted "<12>a\n<12>b\n")
           ∷ [];
-      after = record { used = 27; first = 0; next = 1; level = 7 };
+      after = record { used = 35; first = 0; next = 1; level = 7 };
     }
 
 -- so many empty lines with a prefix of four digits
@@ -103,7 +103,7 @@ longest-form =
           ∷ check gives verdict Fine
           ∷ asked 9 0 [] gives told (pos 25) []
           ∷ [];
-      after = record { used = 42; first = 1; next = 2; level = 7 };
+      after = record { used = 50; first = 1; next = 2; level = 7 };
     }
 
 -- ---- by hand: record 5 of prefix 12 and text "a" newline "b", whose form has 12 bytes, and a position
@@ -113,7 +113,7 @@ byHand position offset =
     record {
       log = record {
         start = record { 0 = 0 };
-        used = 27;
+        used = 35;
         first = record { 0 = 5 };
         next = record { 0 = 6 };
         clear = record { 0 = 0 };
@@ -121,7 +121,7 @@ byHand position offset =
         offset = offset;
         console = settingFresh;
       };
-      buffer = blank 8 ++ (5 ∷ (blank 7 ++ (3 ∷ 0 ∷ 0 ∷ 0 ∷ 12 ∷ 0 ∷ 45 ∷ 0 ∷ (quoted "a\nb" ++ blank 997))));
+      buffer = blank 8 ++ (5 ∷ (blank 7 ++ (3 ∷ 0 ∷ 0 ∷ 0 ∷ 12 ∷ 0 ∷ 45 ∷ 0 ∷ (blank 8 ++ (quoted "a\nb" ++ blank 989)))));
       readers = 5 ∷ [];
     }
 
@@ -132,7 +132,7 @@ placed position offset fits unread =
       before = hand (byHand position offset);
       earlier = [];
       steps = check gives verdict fits ∷ asked 9 0 [] gives told unread [] ∷ [];
-      after = record { used = 27; first = 5; next = 6; level = 7 };
+      after = record { used = 35; first = 5; next = 6; level = 7 };
     })
 
 abbrev pub sheets : List Case

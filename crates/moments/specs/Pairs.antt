@@ -5,9 +5,9 @@ use mathlib.Core.List.{List, [], _∷_, _++_}
 use lib.IntN.{pos}
 use lib.ListN.{replicate}
 use Rattle.slices.specs.Quoted.{quoted}
-use Rattle.history.specs.Calls.{outside, place, read, seek, wrote, set, gave, sought, told}
+use Rattle.history.specs.Calls.{place, read, seek, wrote, set, gave, sought, told}
 use Rattle.board.specs.Board.{fresh, state}
-use Rattle.moments.specs.Case.{box, _gives_, new, hand, Calls, dots, board₀, boardAfter, Pair, both, Case, calls, boardAnswers, linePairs, boardPairs, minus, blank, asked, unprivileged, poor}
+use Rattle.moments.specs.Case.{outside, box, _gives_, new, hand, Calls, dots, board₀, boardAfter, Pair, both, Case, calls, boardAnswers, linePairs, boardPairs, minus, blank, asked, unprivileged, poor}
 use Rattle.moments.specs.Refusals.{byHand, last, board₁}
 
 -- ---- the log
@@ -83,7 +83,7 @@ efault-between =
           ∷ asked 2 2 (blank 1) gives told (minus 14) (blank 1)
           ∷ asked 2 1 (blank 1) gives told (minus 11) (blank 1)
           ∷ [];
-      after = record { used = 25; first = 0; next = 1; level = 7 };
+      after = record { used = 33; first = 0; next = 1; level = 7 };
     }
 
 -- -1 for each type of 0 to 9 but 3 with restriction off, though nothing else is wrong; none of them sets or moves anything: the record is unread and
@@ -106,7 +106,7 @@ eperm-alone =
           ∷ asked 9 0 [] gives told (pos 6) []
           ∷ asked 3 6 (blank 6) gives told (pos 6) (quoted "<12>x\n")
           ∷ [];
-      after = record { used = 25; first = 0; next = 1; level = 7 };
+      after = record { used = 33; first = 0; next = 1; level = 7 };
     }
 
 -- ---- the receiving end

@@ -9,10 +9,10 @@ use lib.ListN.{set as setAt}
 use Rattle.slices.specs.Quoted.{quoted}
 use Rattle.console.specs.declared.Saved.the-variants.{Nothing}
 use Rattle.log.specs.declared.Verdict.the-variants.{Fine, Numbers, Heading}
-use Rattle.history.specs.Calls.{outside, make, place, read, seek, command, check, State, wrote, made, set, gave, sought, told, verdict, nobody}
+use Rattle.history.specs.Calls.{make, place, read, seek, command, check, State, wrote, made, set, gave, sought, told, verdict, nobody}
 use Rattle.board.specs.Board.{fresh, emptySlot, state}
 use Rattle.board.specs.Board.{State as Board}
-use Rattle.moments.specs.Case.{box, _gives_, new, hand, Calls, dots, shows, slotOf, board₀, boardAfter, Case, calls, lineAnswers, boardAnswers, minus, blank, asked, poor}
+use Rattle.moments.specs.Case.{outside, box, _gives_, new, hand, Calls, dots, shows, slotOf, board₀, boardAfter, Case, calls, lineAnswers, boardAnswers, minus, blank, asked, poor}
 
 -- ---- when the log says no
 
@@ -42,7 +42,7 @@ last = 18446744073709551615
 abbrev pub heading-fails : Calls
 heading-fails =
     record {
-      before = hand (byHand 24 0 1 7);
+      before = hand (byHand 32 0 1 7);
       earlier = [];
       steps = outside 0 [] gives wrote (minus 77) 0
           ∷ outside 0 (quoted "\0") gives wrote (minus 77) 0
@@ -53,7 +53,7 @@ heading-fails =
           ∷ poor 2 0 true [] gives told (minus 77) []
           ∷ check gives verdict (Heading 0)
           ∷ [];
-      after = record { used = 24; first = 0; next = 1; level = 7 };
+      after = record { used = 32; first = 0; next = 1; level = 7 };
     }
 
 -- -77 EBADFD: the standing numbers don't fit; making a reader only copies first
@@ -98,7 +98,7 @@ last-number =
       before = hand (byHand 0 18446744073709551614 18446744073709551614 7);
       earlier = [];
       steps = outside 0 [] gives wrote (pos 0) 0 ∷ outside 0 [] gives wrote (minus 75) 0 ∷ [];
-      after = record { used = 24; first = 18446744073709551614; next = last; level = 7 };
+      after = record { used = 32; first = 18446744073709551614; next = last; level = 7 };
     }
 
 -- -77 EBADFD: a reader above next. -11 EAGAIN: one at next. -22 EINVAL: line longer than the lent buffer; other whence. -29 ESPIPE: offset not 0.
@@ -115,12 +115,12 @@ readers-refused =
           ∷ read 0 (quoted "x") gives gave (minus 11) 0 0 (quoted "x")
           ∷ read 1 (quoted "x") gives nobody
           ∷ outside 0 (quoted "x") gives wrote (pos 1) 0
-          ∷ read 0 (blank 10) gives gave (minus 22) 0 0 (blank 10)
+          ∷ read 0 (blank 19) gives gave (minus 22) 0 0 (blank 19)
           ∷ seek 0 (minus 1) (pos 0) gives sought (minus 29) 0
           ∷ seek 0 (pos 0) (pos 1) gives sought (minus 22) 0
           ∷ seek 0 (pos 0) (minus 1) gives sought (minus 22) 0
           ∷ [];
-      after = record { used = 25; first = 0; next = 1; level = 7 };
+      after = record { used = 33; first = 0; next = 1; level = 7 };
     }
 
 -- -22 EINVAL: facility, level, size and dictionary of a write from the box
@@ -138,7 +138,7 @@ writes-refused =
           ∷ box 0 0 0 [] (quoted "a=\0") gives wrote (minus 22) 0
           ∷ box 0 0 0 [] (quoted "a=") gives wrote (pos 2) 0
           ∷ [];
-      after = record { used = 50; first = 0; next = 2; level = 7 };
+      after = record { used = 66; first = 0; next = 2; level = 7 };
     }
 
 -- -22 EINVAL, as document 02's ticket 1 amends it: a zero byte from outside, as the only byte, at either end and in the middle, in the prefix, behind it,
@@ -161,12 +161,12 @@ zeros-refused =
           ∷ outside 0 (replicate 959 97 ++ (0 ∷ [])) gives wrote (minus 22) 0
           ∷ outside 0 (replicate 960 97 ++ (0 ∷ [])) gives wrote (minus 22) 0
           ∷ outside 0 (replicate 961 97) gives wrote (minus 22) 0
-          ∷ read 0 (blank 16) gives gave (pos 14) 0 1 (quoted "12,0,0,-;\\x00\n" ++ blank 2)
-          ∷ read 0 (blank 26) gives gave (pos 24) 0 2 (quoted "12,1,0,-;a\\x00b\n a=\n b=\n" ++ blank 2)
+          ∷ read 0 (blank 25) gives gave (pos 23) 0 1 (quoted "12,0,0,-,caller=0;\\x00\n" ++ blank 2)
+          ∷ read 0 (blank 35) gives gave (pos 33) 0 2 (quoted "12,1,0,-,caller=0;a\\x00b\n a=\n b=\n" ++ blank 2)
           ∷ read 0 (blank 1) gives gave (minus 11) 0 2 (blank 1)
-          ∷ outside 0 (replicate 960 97) gives wrote (pos 960) 1
+          ∷ outside 0 (replicate 960 97) gives wrote (pos 960) 2
           ∷ [];
-      after = record { used = 1016; first = 1; next = 3; level = 7 };
+      after = record { used = 992; first = 2; next = 3; level = 7 };
     }
 
 -- -1 EPERM: without privilege, but for 3 and 10 with restriction off. -22 EINVAL: unknown type; len below 0; level. -14 EFAULT: len above the

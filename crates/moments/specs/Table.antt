@@ -1,12 +1,12 @@
--- Document 01's "Moments to try": a row for each of T1 to T16, then the section's last line.
+-- Document 01's "Moments to try": a row for each of T1 to T16, then the section's last line. T1, T7, T11 and T12 as document 02's ticket 7 amends them.
 use mathlib.Core.List.{List, [], _∷_, _++_}
 use lib.IntN.{pos}
 use lib.ListN.{replicate}
 use Rattle.slices.specs.Quoted.{quoted}
-use Rattle.history.specs.Calls.{outside, make, read, seek, wrote, made, gave, sought, told}
-use Rattle.moments.specs.Case.{_gives_, new, Calls, callsOf, Reads, shows, empty, Delivery, messagesOf, Case, calls, reads, delivers, AllAgree, minus, blank, asked}
+use Rattle.history.specs.Calls.{make, read, seek, wrote, made, gave, sought, told}
+use Rattle.moments.specs.Case.{outside, _gives_, new, Calls, callsOf, Reads, shows, empty, Delivery, messagesOf, Case, calls, reads, delivers, AllAgree, minus, blank, asked}
 
--- T1 fresh, outside "<134>GOAL home 1" at 5,000,999 ns: answer 16, cost 35, line "134,0,5000,-;GOAL home 1" of 25 bytes with newline
+-- T1 fresh, outside "<134>GOAL home 1" at 5,000,999 ns: answer 16, cost 43, line "134,0,5000,-,caller=0;GOAL home 1" of 34 bytes with newline
 abbrev pub t1 : Calls
 t1 =
     record {
@@ -14,9 +14,9 @@ t1 =
       earlier = [];
       steps = make gives made 0
           ∷ outside 5000999 (quoted "<134>GOAL home 1") gives wrote (pos 16) 0
-          ∷ read 0 (blank 30) gives gave (pos 25) 0 1 (quoted "134,0,5000,-;GOAL home 1\n" ++ blank 5)
+          ∷ read 0 (blank 39) gives gave (pos 34) 0 1 (quoted "134,0,5000,-,caller=0;GOAL home 1\n" ++ blank 5)
           ∷ [];
-      after = record { used = 35; first = 0; next = 1; level = 7 };
+      after = record { used = 43; first = 0; next = 1; level = 7 };
     }
 
 -- T2 then command 9: 17; 2 with len 5: "<134>"; 9: 12
@@ -29,7 +29,7 @@ t2 =
           ∷ asked 2 5 (blank 6) gives told (pos 5) (quoted "<134>" ++ blank 1)
           ∷ asked 9 0 [] gives told (pos 12) []
           ∷ [];
-      after = record { used = 35; first = 0; next = 1; level = 7 };
+      after = record { used = 43; first = 0; next = 1; level = 7 };
     }
 
 -- T3 then 3 with len 4: "e 1" and newline
@@ -39,7 +39,7 @@ t3 =
       before = new;
       earlier = callsOf t2;
       steps = asked 3 4 (blank 4) gives told (pos 4) (quoted "e 1\n") ∷ [];
-      after = record { used = 35; first = 0; next = 1; level = 7 };
+      after = record { used = 43; first = 0; next = 1; level = 7 };
     }
 
 -- T4 command 5, then 3: 0, and 9 still 12
@@ -52,7 +52,7 @@ t4 =
           ∷ asked 3 4 (blank 4) gives told (pos 0) (blank 4)
           ∷ asked 9 0 [] gives told (pos 12) []
           ∷ [];
-      after = record { used = 35; first = 0; next = 1; level = 7 };
+      after = record { used = 43; first = 0; next = 1; level = 7 };
     }
 
 -- T5 "<3>x": prefix 11
@@ -63,9 +63,9 @@ t5 =
       earlier = [];
       steps = make gives made 0
           ∷ outside 0 (quoted "<3>x") gives wrote (pos 4) 0
-          ∷ read 0 (blank 11) gives gave (pos 11) 0 1 (quoted "11,0,0,-;x\n")
+          ∷ read 0 (blank 20) gives gave (pos 20) 0 1 (quoted "11,0,0,-,caller=0;x\n")
           ∷ [];
-      after = record { used = 25; first = 0; next = 1; level = 7 };
+      after = record { used = 33; first = 0; next = 1; level = 7 };
     }
 
 -- T6 "<2047>x": 2047; "<2048>x" is all text, prefix 12
@@ -77,13 +77,13 @@ t6 =
       steps = make gives made 0
           ∷ outside 0 (quoted "<2047>x") gives wrote (pos 7) 0
           ∷ outside 0 (quoted "<2048>x") gives wrote (pos 7) 0
-          ∷ read 0 (blank 13) gives gave (pos 13) 0 1 (quoted "2047,0,0,-;x\n")
-          ∷ read 0 (blank 17) gives gave (pos 17) 0 2 (quoted "12,1,0,-;<2048>x\n")
+          ∷ read 0 (blank 22) gives gave (pos 22) 0 1 (quoted "2047,0,0,-,caller=0;x\n")
+          ∷ read 0 (blank 26) gives gave (pos 26) 0 2 (quoted "12,1,0,-,caller=0;<2048>x\n")
           ∷ [];
-      after = record { used = 56; first = 0; next = 2; level = 7 };
+      after = record { used = 72; first = 0; next = 2; level = 7 };
     }
 
--- T7 empty write at time 0: "12,0,0,-;"
+-- T7 empty write at time 0: "12,0,0,-,caller=0;"
 abbrev pub t7 : Calls
 t7 =
     record {
@@ -91,9 +91,9 @@ t7 =
       earlier = [];
       steps = make gives made 0
           ∷ outside 0 [] gives wrote (pos 0) 0
-          ∷ read 0 (blank 10) gives gave (pos 10) 0 1 (quoted "12,0,0,-;\n")
+          ∷ read 0 (blank 19) gives gave (pos 19) 0 1 (quoted "12,0,0,-,caller=0;\n")
           ∷ [];
-      after = record { used = 24; first = 0; next = 1; level = 7 };
+      after = record { used = 32; first = 0; next = 1; level = 7 };
     }
 
 -- T8 two newlines: text line "\x0a"
@@ -104,9 +104,9 @@ t8 =
       earlier = [];
       steps = make gives made 0
           ∷ outside 0 (quoted "\n\n") gives wrote (pos 2) 0
-          ∷ read 0 (blank 14) gives gave (pos 14) 0 1 (quoted "12,0,0,-;\\x0a\n")
+          ∷ read 0 (blank 23) gives gave (pos 23) 0 1 (quoted "12,0,0,-,caller=0;\\x0a\n")
           ∷ [];
-      after = record { used = 25; first = 0; next = 1; level = 7 };
+      after = record { used = 33; first = 0; next = 1; level = 7 };
     }
 
 -- T9 byte 126 stands, 127 and '\' become \x7f and \x5c
@@ -117,9 +117,9 @@ t9 =
       earlier = [];
       steps = make gives made 0
           ∷ outside 0 (126 ∷ 127 ∷ 92 ∷ []) gives wrote (pos 3) 0
-          ∷ read 0 (blank 19) gives gave (pos 19) 0 1 (quoted "12,0,0,-;~\\x7f\\x5c\n")
+          ∷ read 0 (blank 28) gives gave (pos 28) 0 1 (quoted "12,0,0,-,caller=0;~\\x7f\\x5c\n")
           ∷ [];
-      after = record { used = 27; first = 0; next = 1; level = 7 };
+      after = record { used = 35; first = 0; next = 1; level = 7 };
     }
 
 -- T10 999 ns is 0, 1,000 ns is 1
@@ -131,37 +131,37 @@ t10 =
       steps = make gives made 0
           ∷ outside 999 [] gives wrote (pos 0) 0
           ∷ outside 1000 [] gives wrote (pos 0) 0
-          ∷ read 0 (blank 10) gives gave (pos 10) 0 1 (quoted "12,0,0,-;\n")
-          ∷ read 0 (blank 10) gives gave (pos 10) 0 2 (quoted "12,1,1,-;\n")
+          ∷ read 0 (blank 19) gives gave (pos 19) 0 1 (quoted "12,0,0,-,caller=0;\n")
+          ∷ read 0 (blank 19) gives gave (pos 19) 0 2 (quoted "12,1,1,-,caller=0;\n")
           ∷ [];
-      after = record { used = 48; first = 0; next = 2; level = 7 };
+      after = record { used = 64; first = 0; next = 2; level = 7 };
     }
 
--- T11 capacity 1,024: 43 empty writes leave 42, first 1; a reader at 0 gets -32, lost 1
+-- T11 capacity 1,024: 33 empty writes leave 32, first 1; a reader at 0 gets -32, lost 1
 abbrev pub t11 : Calls
 t11 =
     record {
       before = new;
       earlier = [];
       steps = make gives made 0
-          ∷ (replicate 42 (outside 0 [] gives wrote (pos 0) 0)
+          ∷ (replicate 32 (outside 0 [] gives wrote (pos 0) 0)
           ++ (outside 0 [] gives wrote (pos 0) 1
           ∷ read 0 [] gives gave (minus 32) 1 1 []
           ∷ []));
-      after = record { used = 1008; first = 1; next = 43; level = 7 };
+      after = record { used = 1024; first = 1; next = 33; level = 7 };
     }
 
--- T12 then 960 plain bytes: 41 dropped, first 42. 961: -22
+-- T12 then 960 plain bytes: 31 dropped, first 32. 961: -22
 abbrev pub t12 : Calls
 t12 =
     record {
       before = new;
       earlier = callsOf t11;
-      steps = outside 0 (replicate 960 97) gives wrote (pos 960) 41
-          ∷ make gives made 42
+      steps = outside 0 (replicate 960 97) gives wrote (pos 960) 31
+          ∷ make gives made 32
           ∷ outside 0 (replicate 961 97) gives wrote (minus 22) 0
           ∷ [];
-      after = record { used = 1008; first = 42; next = 44; level = 7 };
+      after = record { used = 1024; first = 32; next = 34; level = 7 };
     }
 
 -- T13 "6,339,5140900,-;NET: Registered protocol family 10" (001), and the same with ",caller=T1" before ';', read alike
