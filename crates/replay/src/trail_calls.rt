@@ -106,12 +106,14 @@ fn begin(state: State) -> Called {
     state::left(with_trail(state, Reader::new()), Told::form(0))
 }
 
-// A record: its numbers; text, and behind it dictionary.
-fn record_told(h: Heading) -> Told {
+// A record: its numbers, and the trail's edition; text, and behind it dictionary.
+fn record_told(h: Heading, edition: u16) -> Told {
     let mut told = Told::number(h.sequence);
     told.n1 = h.time;
     told.n2 = h.prefix as u64;
     told.n3 = h.flag as u64;
+    told.n4 = h.caller as u64;
+    told.n5 = edition as u64;
     told.to = h.text as usize;
     told.more = h.text as usize + h.dictionary as usize;
     told
@@ -126,8 +128,9 @@ fn fault_form(fault: Fault) -> usize {
     match fault {
         Fault::Number => 2,
         Fault::Save => 3,
-        Fault::Count => 4,
-        Fault::Check => 5,
+        Fault::Edition => 4,
+        Fault::Count => 5,
+        Fault::Check => 6,
     }
 }
 
@@ -135,16 +138,16 @@ fn ending_told(ending: Ending) -> Told {
     match ending {
         Ending::Ended => Told::form(1),
         Ending::BadBlock(fault, place) => stopped(fault_form(fault), place),
-        Ending::BadRecord(place) => stopped(6, place),
-        Ending::Unfinished(place) => stopped(7, place),
+        Ending::BadRecord(place) => stopped(7, place),
+        Ending::Unfinished(place) => stopped(8, place),
     }
 }
 
 fn handed_told(told: savedtrail::Told) -> Told {
     match told {
-        savedtrail::Told::Given(h) => record_told(h),
+        savedtrail::Told::Given(h, edition) => record_told(h, edition),
         savedtrail::Told::Over(ending) => ending_told(ending),
-        savedtrail::Told::Room => Told::form(8),
+        savedtrail::Told::Room => Told::form(9),
     }
 }
 

@@ -5,6 +5,7 @@ use crate::state::LogCalled;
 use crate::state::State;
 use log::Answer;
 use log::Log;
+use script::decimals;
 use script::lent;
 use script::lent::Space;
 use script::words;
@@ -12,12 +13,13 @@ use script::words::Bytes;
 use script::words::Words;
 use writes::Written;
 
+// A caller that is left out is 0.
 fn outside(log: Log, words: Words, bytes: &Bytes, ring: &mut [u8]) -> Written {
     let handed = words::bytes_of(words.w2, bytes);
-    writes::write_outside(log, ring, words.w1.n, handed)
+    writes::write_outside(log, ring, words.w1.n, handed, decimals::word(words.w3.n))
 }
 
-// The word behind the dictionary says that it is a fragment; where there is none it says 0.
+// The word behind the dictionary says that it is a fragment, the one behind that its caller; where there is none it says 0.
 fn from_box(log: Log, words: Words, bytes: &Bytes, ring: &mut [u8]) -> Written {
     let text = words::bytes_of(words.w4, bytes);
     let dictionary = words::bytes_of(words.w5, bytes);
@@ -33,13 +35,14 @@ fn from_box(log: Log, words: Words, bytes: &Bytes, ring: &mut [u8]) -> Written {
         text,
         dictionary,
         fragment,
+        decimals::word(words.w7.n),
     )
 }
 
 fn write(log: Log, words: Words, bytes: &Bytes, ring: &mut [u8]) -> Written {
     let row = words.row;
     match row {
-        b'0' => outside(log, words, bytes, ring),
+        b'0' | b'3' => outside(log, words, bytes, ring),
         _ => from_box(log, words, bytes, ring),
     }
 }

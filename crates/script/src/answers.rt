@@ -30,8 +30,8 @@ pub struct Told {
     pub stayed: bool,
 }
 
-// What a line means that is no call.
-const NO_CALL: usize = 9;
+// What a line means that is no call: no row has so many forms.
+const NO_CALL: usize = 99;
 
 impl Told {
     // A form with nothing to tell.

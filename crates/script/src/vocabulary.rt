@@ -17,7 +17,7 @@ use crate::words::Bytes;
 use crate::words::Word;
 use crate::words::Words;
 
-pub const ROWS: [u8; 1123] = *b"f0 log #70000 #255=log\n\
+pub const ROWS: [u8; 1209] = *b"f0 log #70000 #255=log\n\
     l0 check=fine|numbers|heading n\n\
     l1 numbers=n n n n n n n n n n|n n n n n n n n n -\n\
     l2 peek # #=h\n\
@@ -34,8 +34,10 @@ pub const ROWS: [u8; 1123] = *b"f0 log #70000 #255=log\n\
     n9 number saved #=set\n\
     nx number saved -=set\n\
     w0 outside # $=i n\n\
+    w3 outside # $ #4294967295=i n\n\
     w1 box ~ ~ # $ $=i n\n\
     w2 box ~ ~ # $ $ #1=i n\n\
+    w4 box ~ ~ # $ $ #1 #4294967295=i n\n\
     r0 reader=reader n\n\
     r1 at # #=set\n\
     r2 where #=n\n\
@@ -57,7 +59,7 @@ pub const ROWS: [u8; 1123] = *b"f0 log #70000 #255=log\n\
     t0 cut #=cut n\n\
     t1 patch # $=patched\n\
     t2 trail=trail\n\
-    t3 next @5000=record n n n n h m|end|stop number n|stop save n|stop count n|stop check n|stop record n|stop unfinished n|room";
+    t3 next @5000=record n n n n h m n n|end|stop number n|stop save n|stop edition n|stop count n|stop check n|stop record n|stop unfinished n|room";
 
 // More rows than there will be.
 const ROWS_MOST: usize = 128;

@@ -32,6 +32,7 @@ pub struct Words {
     pub w4: Value,
     pub w5: Value,
     pub w6: Value,
+    pub w7: Value,
 }
 
 // A word: what it says, or that it is not what is wanted.
@@ -56,6 +57,7 @@ impl Words {
             w4: nothing,
             w5: nothing,
             w6: nothing,
+            w7: nothing,
         }
     }
 
@@ -68,7 +70,8 @@ impl Words {
             3 => words.w3 = value,
             4 => words.w4 = value,
             5 => words.w5 = value,
-            _ => words.w6 = value,
+            6 => words.w6 = value,
+            _ => words.w7 = value,
         }
         words
     }
