@@ -23,14 +23,24 @@ fn records(n: u64) -> bool {
     }
 }
 
-fn ended(n: u64) -> bool {
-    say(b"end: ") & records(n) & say(b"\n")
+// The edition, where the first block told one.
+fn edition(first: bool, edition: u16) -> bool {
+    if first {
+        say(b", edition ") & number(edition as u64)
+    } else {
+        true
+    }
+}
+
+fn ended(first: bool, lines: Printed) -> bool {
+    say(b"end: ") & records(lines.records) & edition(first, lines.edition) & say(b"\n")
 }
 
 fn fault(f: Fault) -> bool {
     match f {
         Fault::Number => say(b": wrong number"),
         Fault::Save => say(b": wrong save number"),
+        Fault::Edition => say(b": wrong edition"),
         Fault::Count => say(b": wrong count"),
         Fault::Check => say(b": wrong check"),
     }
@@ -57,19 +67,19 @@ fn bad_record(place: usize, why: &[u8]) -> bool {
     say(b"stop at record ") & number(place as u64) & say(why)
 }
 
-fn tell(ending: Ending, n: u64) -> bool {
+fn tell(ending: Ending, first: bool, lines: Printed) -> bool {
     match ending {
-        Ending::Ended => ended(n),
-        Ending::BadBlock(f, place) => bad_block(f, place, n),
+        Ending::Ended => ended(first, lines),
+        Ending::BadBlock(f, place) => bad_block(f, place, lines.records),
         Ending::BadRecord(place) => bad_record(place, b": it breaks the heading rules\n"),
         Ending::Unfinished(place) => bad_record(place, b": unfinished\n"),
     }
 }
 
-fn printed(printed: Printed) -> bool {
-    let how = printed.how;
+fn printed(first: bool, lines: Printed) -> bool {
+    let how = lines.how;
     match how {
-        How::Ended(ending) => tell(ending, printed.records),
+        How::Ended(ending) => tell(ending, first, lines),
         How::Unwritten => false,
     }
 }
@@ -92,7 +102,7 @@ fn unwritten() {
 
 // The last line; and on standard error what could not be read or written.
 pub fn print(input: Input, lines: Printed) {
-    if !printed(lines) {
+    if !printed(Input::BLOCK <= input.length, lines) {
         unwritten();
     }
     if input.failed {

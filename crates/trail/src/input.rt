@@ -17,14 +17,17 @@ pub type Chunk = [u8; 65536];
 pub type File = [u8; Input::ROOM];
 
 impl Input {
+    // bytes of a block
+    pub const BLOCK: usize = 512;
+
     // blocks that are held for a reader
     pub const BLOCKS: usize = 8192;
 
     // their bytes
-    pub const HELD: usize = 512 * Input::BLOCKS;
+    pub const HELD: usize = Input::BLOCK * Input::BLOCKS;
 
     // and those of the block behind them
-    pub const ROOM: usize = Input::HELD + 512;
+    pub const ROOM: usize = Input::HELD + Input::BLOCK;
 }
 
 // A piece put behind what has come, as far as there is room.

@@ -10,9 +10,10 @@ pub type Result = [u8; Reader::RESULT_LEAST];
 
 pub type Line = [u8; Heading::LINE_MOST];
 
-// What became of the printing: how many lines were written, and how the trail ended; or that a line could not be written.
+// What became of the printing: how many lines were written, the edition that the trail was read in, and how it ended; or that a line could not be written.
 pub struct Printed {
     pub records: u64,
+    pub edition: u16,
     pub how: How,
 }
 
@@ -71,7 +72,7 @@ fn written(done: bool) -> Step {
 // A line that has no room and a result buffer that is too short are none of ours.
 fn print_told(told: Told, result: &Result, line: &mut Line) -> Step {
     match told {
-        Told::Given(h) => written(print_record(h, result, line)),
+        Told::Given(h, _) => written(print_record(h, result, line)),
         Told::Over(ending) => Step::Over(How::Ended(ending)),
         Told::Room => Step::Over(How::Unwritten),
     }
@@ -86,12 +87,18 @@ pub fn print(file: &[u8], result: &mut Result, line: &mut Line) -> Printed {
         reader = handed.reader;
         let told = handed.told;
         if let Step::Over(how) = print_told(told, result, line) {
-            return Printed { records, how };
+            let blocks = reader.blocks;
+            return Printed {
+                records,
+                edition: blocks.edition,
+                how,
+            };
         }
         records += 1;
     }
     Printed {
         records,
+        edition: 0,
         how: How::Unwritten,
     }
 }
