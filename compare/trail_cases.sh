@@ -1,6 +1,7 @@
 #!/bin/bash
-# Saved trails: the replay program and the second program on a systematic script (many logs and old files with every cut, damage at every border) and on
-# scripts from fixed seeds, compared byte for byte; the answers of each are held to trail_images.py, which makes and reads the images with zlib and struct.
+# Saved trails of both editions: the replay program and the second program on a systematic script (many logs and old files with every cut, damage at every
+# border), on scripts from fixed seeds, on every choice of editions over three blocks and on the samples, compared byte for byte; the answers of each are held to
+# trail_images.py, which makes and reads the images with zlib and struct.
 # trail_cases.sh [PROGRAM]: prints each script that differs with its first line that does, and what was checked. With the word none, the second program alone.
 set -uo pipefail
 cd "$(dirname "$0")/.."
@@ -47,6 +48,17 @@ held 'every cut'
 for seed in 106 107; do
     "$second" script "$seed" 4000 trail >"$room/in"
     held "script $seed"
+done
+for seed in 116 117; do
+    "$second" script "$seed" 4000 editions >"$room/in"
+    held "script $seed"
+done
+"$second" script all editions >"$room/in"
+held 'script all editions'
+# The samples are older trails.
+for sample in samples/trail.image samples/trail-cut.image; do
+    { echo "disk $(wc -c <"$sample") 0"; echo "patch 0 $(od -An -v -tx1 "$sample" | tr -d ' \n')"; echo trail; for i in $(seq 17); do echo next 960; done; } >"$room/in"
+    held "$sample"
 done
 
 echo "trails: $lines script lines; $passed passed, $failed failed"

@@ -2,7 +2,7 @@
 
 use crate::board::{Board, BOARD, FIRST_CHANNEL, SLOTS};
 use crate::joiner::{Given, Joiner};
-use crate::log::{to_console, Log, Misfit};
+use crate::log::{to_console, Log, Misfit, Stamp};
 use crate::message::{hex_digit, read_line, BLOCK};
 use crate::record::BULK;
 use crate::trail::{save, Last, Next, Reason, Trail, BLOCK as SAVED};
@@ -122,24 +122,24 @@ impl Machine {
                 Err(Misfit::Numbers) => "numbers".into(),
                 Err(Misfit::Heading(count)) => format!("heading {count}"),
             }),
-            ["outside", time, handed] => {
-                let (time, handed) = (num(time)?, unhex(handed)?);
+            ["outside", time, handed, ref more @ ..] => {
+                let stamp = stamp(time, more)?;
+                let handed = unhex(handed)?;
                 let log = self.log.as_mut()?;
-                write(log, |log| log.outside(time, &handed))
+                write(log, |log| log.outside(stamp, &handed))
             }
             ["box", facility, level, time, text, dictionary, ref more @ ..] => {
                 // Left out, it is no fragment.
-                let fragment = match *more {
-                    [] => false,
-                    [word] => num_to(word, 1)? == 1,
-                    _ => return None,
+                let (fragment, more) = match more.split_first() {
+                    Some((word, more)) => (num_to(word, 1)? == 1, more),
+                    None => (false, &[][..]),
                 };
+                let stamp = stamp(time, more)?;
                 let (facility, level) = (any_int(facility)?, any_int(level)?);
-                let time = num(time)?;
                 let (text, dictionary) = (unhex(text)?, unhex(dictionary)?);
                 let log = self.log.as_mut()?;
                 write(log, |log| {
-                    log.from_box(facility, level, time, &text, &dictionary, fragment)
+                    log.from_box(facility, level, stamp, &text, &dictionary, fragment)
                 })
             }
             ["reader"] => {
@@ -305,6 +305,17 @@ impl Machine {
     }
 }
 
+/// A write's time, and its caller: the last word, or 0 where that is left out.
+fn stamp(time: &str, more: &[&str]) -> Option<Stamp> {
+    let caller = match *more {
+        [] => 0,
+        [word] => num_to(word, u32::MAX.into())? as u32,
+        _ => return None,
+    };
+    let time = num(time)?;
+    Some(Stamp { time, caller })
+}
+
 /// A write, and whether bytes beside its record stayed.
 fn write(log: &mut Log, call: impl FnOnce(&mut Log) -> (i64, u64)) -> Option<String> {
     let before = log.bytes().to_vec();
@@ -427,6 +438,7 @@ fn next(trail: &mut Trail, file: &[u8], result: &mut [u8]) -> String {
             let reason = match reason {
                 Reason::Number => "number",
                 Reason::Save => "save",
+                Reason::Edition => "edition",
                 Reason::Count => "count",
                 Reason::Check => "check",
                 Reason::Record => "record",
@@ -434,17 +446,18 @@ fn next(trail: &mut Trail, file: &[u8], result: &mut [u8]) -> String {
             };
             (format!("stop {reason} {place}"), 0)
         }
-        Next::Record(record) => {
+        Next::Record(record, edition) => {
             let count = record.text.len() + record.dictionary.len();
             let (text, dictionary) = result[..count].split_at(record.text.len());
             let said = format!(
-                "record {} {} {} {} {} {}",
+                "record {} {} {} {} {} {} {} {edition}",
                 record.sequence,
                 record.time,
                 record.prefix,
                 record.flag,
                 hex(text),
-                hex(dictionary)
+                hex(dictionary),
+                record.caller
             );
             (said, count)
         }

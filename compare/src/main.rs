@@ -17,8 +17,8 @@ use std::io::{self, BufWriter, ErrorKind, Write};
 use std::process::ExitCode;
 
 const USAGE: &str = "usage: compare answer
-       compare script SEED N [wide|trail|console|lines|joiner]
-       compare script all console|levels|bytes|pieces";
+       compare script SEED N [wide|trail|editions|console|lines|joiner]
+       compare script all console|levels|bytes|pieces|editions";
 
 fn main() -> ExitCode {
     let words: Vec<String> = std::env::args().skip(1).collect();
@@ -30,9 +30,13 @@ fn main() -> ExitCode {
         ["script", "all", "levels"] => script::write_all_levels(&mut output),
         ["script", "all", "bytes"] => script::write_all_bytes(&mut output),
         ["script", "all", "pieces"] => script::write_all_pieces(&mut output),
+        ["script", "all", "editions"] => script::write_all_editions(&mut output),
         ["script", seed, lines] => write_script(seed, lines, Kind::Plain, &mut output),
         ["script", seed, lines, "wide"] => write_script(seed, lines, Kind::Wide, &mut output),
         ["script", seed, lines, "trail"] => write_script(seed, lines, Kind::Trail, &mut output),
+        ["script", seed, lines, "editions"] => {
+            write_script(seed, lines, Kind::Editions, &mut output)
+        }
         ["script", seed, lines, "console"] => write_script(seed, lines, Kind::Console, &mut output),
         ["script", seed, lines, "lines"] => write_script(seed, lines, Kind::Lines, &mut output),
         ["script", seed, lines, "joiner"] => write_script(seed, lines, Kind::Joiner, &mut output),

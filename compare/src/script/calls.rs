@@ -2,7 +2,7 @@
 
 use super::{Script, Style};
 use crate::answer::hex;
-use crate::record::{Record, BULK};
+use crate::record::{Record, BULK, HEADING};
 
 impl Script<'_> {
     /// Bytes that are a prefix, or look like one.
@@ -62,7 +62,11 @@ impl Script<'_> {
             self.put_zeros(&mut handed, prefix);
         }
         let time = self.time();
-        self.say(format!("outside {time} {}", hex(&handed)));
+        let caller = match self.random.below(30) {
+            0 => self.odd_caller().into(),
+            _ => self.caller_word(),
+        };
+        self.say(format!("outside {time} {}{caller}", hex(&handed)));
         self.after_call();
     }
 
@@ -155,24 +159,90 @@ impl Script<'_> {
             self.put_zeros(&mut text, 0);
         }
         let time = self.time();
-        let fragment = match self.random.below(25) {
-            0 => self.odd_fragment(),
-            _ => self.fragment(),
+        let last = match self.random.below(50) {
+            0 | 1 => self.odd_fragment().into(),
+            2 => format!(" {}{}", self.random.below(2), self.odd_caller()),
+            _ => self.last_words(),
         };
         self.say(format!(
-            "box {facility} {level} {time} {} {}{fragment}",
+            "box {facility} {level} {time} {} {}{last}",
             hex(&text),
             hex(&dictionary)
         ));
         self.after_call();
     }
 
-    /// The last word of a write from the box with the space before it, or nothing.
-    pub(super) fn fragment(&mut self) -> &'static str {
-        self.random.pick(&["", "", "", "", " 0", " 1", " 1", " 1"])
+    /// A caller: at the edges of its range and of its digits, with bytes that show their places,
+    /// or any.
+    pub(super) fn caller(&mut self) -> u32 {
+        match self.random.below(4) {
+            0 => self.random.pick(&[0, 1, u32::MAX]),
+            1 => self.random.pick(&[
+                9,
+                10,
+                255,
+                256,
+                65_535,
+                65_536,
+                999_999_999,
+                1_000_000_000,
+                0x0403_0201,
+                1 << 24,
+                1 << 31,
+                u32::MAX - 1,
+            ]),
+            2 => self.random.below(1_000) as u32,
+            _ => self.random.any() as u32,
+        }
     }
 
-    /// A last word that says neither yes nor no, so that the line is no call.
+    /// The last word of a write with the space before it, or nothing.
+    pub(super) fn caller_word(&mut self) -> String {
+        match self.random.chance(60) {
+            true => format!(" {}", self.caller()),
+            false => String::new(),
+        }
+    }
+
+    /// What a write from the box ends with: nothing, whether it is a fragment, or that and a caller.
+    pub(super) fn last_words(&mut self) -> String {
+        match self
+            .random
+            .pick(&["", "", "", " 0", " 0", " 1", " 1", " 1"])
+        {
+            "" => String::new(),
+            fragment => fragment.to_string() + &self.caller_word(),
+        }
+    }
+
+    /// A last word that is no caller, so that the line is no call.
+    fn odd_caller(&mut self) -> &'static str {
+        const ODD: &[&str] = &[
+            " 4294967296",
+            " 4294967296",
+            " 4294967297",
+            " 9999999999",
+            " 18446744073709551615",
+            " 18446744073709551616",
+            " -1",
+            " -4294967295",
+            " -",
+            " T1",
+            " 1x",
+            " ",
+            " 1 ",
+            "  1",
+            " 1 1",
+            " caller=1",
+        ];
+        const WIDE: &[&str] = &[" 01", " 00", " 04294967295", " 04294967296", " +1", " -0"];
+        match self.wide && self.random.chance(50) {
+            true => self.random.pick(WIDE),
+            false => self.random.pick(ODD),
+        }
+    }
+
+    /// A word that says neither yes nor no, so that the line is no call.
     fn odd_fragment(&mut self) -> &'static str {
         const ODD: &[&str] = &[
             " 2",
@@ -188,10 +258,14 @@ impl Script<'_> {
             " 0 ",
             "  1",
             " 1x",
+            " 2 7",
+            " - 7",
+            "  7",
+            " 4294967295 1",
             " 18446744073709551615",
             " 18446744073709551616",
         ];
-        const WIDE: &[&str] = &[" 01", " 00", " 001", " 02", " +1", " -0"];
+        const WIDE: &[&str] = &[" 01", " 00", " 001", " 02", " +1", " -0", " 01 007"];
         match self.wide && self.random.chance(50) {
             true => self.random.pick(WIDE),
             false => self.random.pick(ODD),
@@ -230,7 +304,7 @@ impl Script<'_> {
                 Some(record) => record.line().len() as u64,
                 None => self.random.below(60),
             };
-            let ample = self.random.within(3_887, 5_000);
+            let ample = self.random.within(3_905, 5_000);
             let length = match self.random.below(20) {
                 0..=4 => exact,
                 5 | 6 => exact.saturating_sub(1),
@@ -499,9 +573,10 @@ impl Script<'_> {
 
     /// Fills the log with as many records as it can hold.
     pub(super) fn fill_with_empty(&mut self) {
-        for _ in 0..self.capacity() / 24 + 2 {
+        for _ in 0..self.capacity() / HEADING as u64 + 2 {
             let time = self.time();
-            self.say(format!("outside {time} -"));
+            let caller = self.caller_word();
+            self.say(format!("outside {time} -{caller}"));
         }
         self.say("command 9 0 1 0 0");
         self.say("command 3 65536 1 0 65536");

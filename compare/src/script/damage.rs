@@ -140,8 +140,8 @@ impl Script<'_> {
         let record = &held[index];
         let (text, dictionary) = (record.text.len(), record.dictionary.len());
         let kind = match dictionary {
-            0 => self.random.below(10),
-            _ => self.random.below(13),
+            0 => self.random.below(13),
+            _ => self.random.below(16),
         };
         let (at, bytes): (usize, Vec<u8>) = match kind {
             0 => {
@@ -200,7 +200,9 @@ impl Script<'_> {
                 let old = record.bytes()[at];
                 (at, vec![old ^ (1 << self.random.below(8))])
             }
-            9 => {
+            9 => (24, self.caller().to_le_bytes().into()),
+            10 | 11 => self.heading_zero(),
+            12 => {
                 // The text may then have a line more, or one less.
                 let at = self.random.below(text as u64) as usize;
                 (HEADING + at, vec![self.random.pick(b"\n\n\na")])
@@ -233,6 +235,12 @@ impl Script<'_> {
         self.random.pick(&[
             WHOLE, FRAGMENT, FRAGMENT, FRAGMENT, b'+', b'+', 0, 44, 46, 67, 98, 100, 173, 227, 255,
         ])
+    }
+
+    /// One of the four bytes behind the caller, and what it is not to be.
+    pub(super) fn heading_zero(&mut self) -> (usize, Vec<u8>) {
+        let at = 28 + self.random.below(4) as usize;
+        (at, vec![self.random.pick(&[1, 1, 45, 128, 255, 0])])
     }
 
     /// An empty log whose next number is at the end of all numbers.
@@ -322,9 +330,9 @@ impl Script<'_> {
         if !held.is_empty() && self.random.chance(50) {
             let index = self.random.below(held.len() as u64) as usize;
             let place = held.iter().take(index).map(Record::cost).sum::<usize>();
-            let at = n.start as usize + place + 22;
-            let bytes = self.random.pick(&[[46, 0], [45, 1]]);
-            self.poke_ring(at, &bytes, &mut repairs);
+            let zero = 28 + self.random.below(4) as usize;
+            let (at, byte) = self.random.pick(&[(22, 46), (23, 1), (zero, 1)]);
+            self.poke_ring(n.start as usize + place + at, &[byte], &mut repairs);
         }
         let around = |number: u64| [number.wrapping_sub(1), number, number.wrapping_add(1)];
         let last = [capacity - 1, capacity, u64::MAX];
@@ -428,10 +436,17 @@ impl Script<'_> {
             (22, vec![b'-']),
             (23, vec![1]),
             (23, vec![255]),
+            (24, vec![255; 4]),
+            (24, vec![0; 4]),
+            (28, vec![1]),
+            (29, vec![1]),
+            (30, vec![1]),
+            (31, vec![1]),
+            (31, vec![255]),
         ];
         for at in 0..record.dictionary.len().min(6) {
             for byte in [0, b'=', b'a'] {
-                changes.push((24 + text as usize + at, vec![byte]));
+                changes.push((HEADING + text as usize + at, vec![byte]));
             }
         }
         for (at, bytes) in changes {
@@ -492,6 +507,7 @@ impl Script<'_> {
                 sequence: first + i,
                 prefix: self.random.below(2_048) as u16,
                 flag: self.any_flag(),
+                caller: self.caller(),
                 text,
                 dictionary,
             };
@@ -512,6 +528,7 @@ impl Script<'_> {
                 sequence: first + records.len() as u64,
                 prefix: 134,
                 flag: self.any_flag(),
+                caller: self.caller(),
                 text: self.text(length),
                 dictionary: Vec::new(),
             };
@@ -519,7 +536,15 @@ impl Script<'_> {
             records.push(record);
         }
 
-        let layout: Vec<u8> = records.iter().flat_map(Record::bytes).collect();
+        // A log that was left by headings of 24 bytes does not fit.
+        let old = self.random.chance(8);
+        let layout: Vec<u8> = match old {
+            true => records.iter().flat_map(Record::old_bytes).collect(),
+            false => records.iter().flat_map(Record::bytes).collect(),
+        };
+        if old && self.random.chance(70) {
+            used = layout.len();
+        }
         self.poke_ring(start, &layout, &mut Vec::new());
         let next = first + records.len() as u64;
         let before = first.saturating_sub(self.random.below(3));

@@ -185,6 +185,7 @@ impl Script<'_> {
             sequence: number,
             prefix: (facility * 8 + self.random.below(8)) as u16,
             flag: WHOLE,
+            caller: 0,
             text,
             dictionary,
         };
@@ -290,6 +291,7 @@ impl Script<'_> {
                         sequence: number,
                         prefix,
                         flag: WHOLE,
+                        caller: 0,
                         text,
                         dictionary: b"k=v".to_vec(),
                     };
@@ -371,7 +373,8 @@ impl Script<'_> {
         if self.random.chance(12) {
             // From outside no piece comes, but what ends one may.
             let handed = [format!("<{}>", facility * 8 + 5).into_bytes(), text].concat();
-            self.say_hex(&format!("outside {time}"), &handed);
+            let caller = self.caller_word();
+            self.say(format!("outside {time} {}{caller}", hex(&handed)));
             return;
         }
         let level = self.random.below(8);
@@ -379,9 +382,12 @@ impl Script<'_> {
             true => self.dictionary(BULK.saturating_sub(text.len())),
             false => Vec::new(),
         };
-        let fragment = self.random.pick(&[" 1", " 1", " 1", " 1", " 0", ""]);
+        let last = match self.random.pick(&[" 1", " 1", " 1", " 1", " 0", ""]) {
+            "" => String::new(),
+            fragment => fragment.to_string() + &self.caller_word(),
+        };
         self.say(format!(
-            "box {facility} {level} {time} {} {}{fragment}",
+            "box {facility} {level} {time} {} {}{last}",
             hex(&text),
             hex(&dictionary)
         ));

@@ -139,7 +139,8 @@ impl Script<'_> {
             text.retain(|&byte| byte != 0);
             let mut handed = [prefix.as_bytes(), &text, tail.as_bytes()].concat();
             handed.truncate(BULK);
-            self.say(format!("outside {time} {}", hex(&handed)));
+            let caller = self.caller_word();
+            self.say(format!("outside {time} {}{caller}", hex(&handed)));
             return;
         }
         let (facility, level) = match self.random.below(3) {
@@ -160,9 +161,9 @@ impl Script<'_> {
             true => self.dictionary(BULK - text.len()),
             false => Vec::new(),
         };
-        let fragment = self.fragment();
+        let last = self.last_words();
         self.say(format!(
-            "box {facility} {level} {time} {} {}{fragment}",
+            "box {facility} {level} {time} {} {}{last}",
             hex(&text),
             hex(&dictionary)
         ));
@@ -619,10 +620,10 @@ fn short_texts() -> impl Iterator<Item = Small> {
     })
 }
 
-/// One record with 1 to 30 of its 30 bytes before the buffer's end, so that each newline is the
+/// One record with 1 to 38 of its 38 bytes before the buffer's end, so that each newline is the
 /// last byte there once, and once the first at the start.
 fn over_the_end() -> impl Iterator<Item = Small> {
-    (1..=30).map(|here| Small {
+    (1..=38).map(|here| Small {
         made: made(
             1024 - here,
             vec![format!("box 16 6 0 {} -", hex(b"\na\n\nb\n"))],
@@ -633,8 +634,8 @@ fn over_the_end() -> impl Iterator<Item = Small> {
 
 /// Records that are dropped when so many bytes of them are read: at each byte of their forms.
 fn dropped() -> impl Iterator<Item = Small> {
-    // Text of 2 to 4 bytes, and 984 bytes of which the form has 5: the first record has no room.
-    let filler = format!("box 1 4 0 - {}", hex(&[b"k=", &[b'v'; 958][..]].concat()));
+    // Text of 2 to 4 bytes, and 991 bytes of which the form has 5: the first record has no room.
+    let filler = format!("box 1 4 0 - {}", hex(&[b"k=", &[b'v'; 957][..]].concat()));
     let texts = [
         ("16 6", "ab\nc", 15),
         ("0 3", "\n\n", 12),

@@ -97,6 +97,7 @@ impl Script<'_> {
             sequence,
             prefix: (facility * 8 + self.random.below(8)) as u16,
             flag: self.any_flag(),
+            caller: self.caller(),
             text: self.bytes(length),
             dictionary: self.dictionary(BULK - length),
         };
@@ -241,9 +242,14 @@ impl Script<'_> {
         ];
         for _ in 0..self.random.pick(&[0, 0, 0, 1, 1, 2, 5]) {
             let length = self.random.below(12) as usize;
-            let mut field = match self.random.below(4) {
+            let mut field = match self.random.below(6) {
                 0 => b"caller=T1".to_vec(),
                 1 => Vec::new(),
+                2 => format!("caller={}", record.caller).into(),
+                3 => self
+                    .random
+                    .pick(&["caller=", "caller=4294967296", "caller", "caller=-1,c"])
+                    .into(),
                 _ => self.bytes(length),
             };
             field.retain(|b| !b";\n".contains(b));

@@ -5,6 +5,7 @@
 mod calls;
 mod console;
 mod damage;
+mod editions;
 mod joiner;
 mod lines;
 mod messages;
@@ -17,6 +18,7 @@ use crate::record::Record;
 use std::io::{self, Write};
 
 pub use console::{write_all_levels, write_all_runs};
+pub use editions::write_all_editions;
 pub use joiner::write_all_pieces;
 pub use lines::write_all_bytes;
 
@@ -29,6 +31,8 @@ pub enum Kind {
     Wide,
     /// Saved trails, and what they need.
     Trail,
+    /// Trails that the script makes itself, of either edition and of both.
+    Editions,
     /// The console's levels: runs of calls that move them, and levels by hand.
     Console,
     /// Texts of many lines, and the commands that give them.
@@ -56,6 +60,7 @@ pub fn write_script(seed: u64, lines: u64, kind: Kind, output: &mut dyn Write) -
     while script.left > 0 {
         match kind {
             Kind::Trail => script.trail_chapter(),
+            Kind::Editions => script.editions_chapter(),
             Kind::Console => script.console_chapter(),
             Kind::Lines => script.lines_chapter(),
             Kind::Joiner => script.joiner_chapter(),
@@ -145,7 +150,7 @@ impl Script<'_> {
             }
             return;
         }
-        if matches!(kind, Kind::Console | Kind::Lines) {
+        if matches!(kind, Kind::Console | Kind::Lines | Kind::Editions) {
             return;
         }
         if kind == Kind::Joiner {
@@ -190,7 +195,7 @@ impl Script<'_> {
             80..=81 => 65_535,
             82..=87 => self.random.within(4_097, 65_535),
             _ => self.random.pick(&[
-                0, 1, 23, 1_023, 1_023, 1_023, 65_537, 65_537, 65_537, 70_000,
+                0, 1, 31, 1_023, 1_023, 1_023, 65_537, 65_537, 65_537, 70_000,
             ]),
         };
         let fill = self.fill_byte();
@@ -222,7 +227,7 @@ impl Script<'_> {
             match self.random.below(10) {
                 0..=2 => self.forge(),
                 3..=6 if capacity > 8_192 => self.fill_up(),
-                7 if capacity <= 4_096 || self.random.chance(20) => self.fill_with_empty(),
+                7 if capacity <= 4_096 || self.random.chance(6) => self.fill_with_empty(),
                 _ => (),
             }
         }
@@ -442,6 +447,13 @@ impl Script<'_> {
             "outside -1 -",
             "outside 0 abc",
             "outside 0  61",
+            "outside 0 61 ",
+            "outside 0 61 -",
+            "outside 0 61 -1",
+            "outside 0 61 x",
+            "outside 0 61 4294967296",
+            "outside 0 61 1 1",
+            "outside 0 1",
             "box 1 1 0 61",
             "box 1 1 0 61 613",
             "box x 1 0 61 -",
@@ -452,6 +464,14 @@ impl Script<'_> {
             "box 1 1 0 61 - c",
             "box 1 1 0 61 613 1",
             "box 1 1 0 61 1",
+            "box 1 1 0 61 - 1 ",
+            "box 1 1 0 61 - 1 -",
+            "box 1 1 0 61 - 1 -1",
+            "box 1 1 0 61 - 1 x",
+            "box 1 1 0 61 - 1 4294967296",
+            "box 1 1 0 61 - 2 1",
+            "box 1 1 0 61 - 0 1 1",
+            "box 256 8 0 61 - 0 4294967296",
             "reader 0",
             "at 0",
             "at 99 0",
@@ -591,6 +611,12 @@ impl Script<'_> {
             "box 1 1 0 61 - 000",
             "box 1 1 0 61 - +1",
             "box 256 8 0 61 - 01",
+            "box 256 8 0 61 - 1 007",
+            "box 1 1 0 61 - 1 04294967295",
+            "box 1 1 0 61 - 1 +1",
+            "outside 0 61 007",
+            "outside 0 61 +7",
+            "outside 0 61 -0",
             "joiner 007",
             "joiner +7",
             "open 016",

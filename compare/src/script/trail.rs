@@ -5,13 +5,45 @@
 
 use super::Script;
 use crate::answer::hex;
-use crate::record::{Record, BULK, HEADING};
-use crate::trail::{crc, image, BLOCK, CHECKED, FRONT, PAYLOAD};
+use crate::record::{Record, BULK, HEADING, OLD_HEADING};
+use crate::trail::{crc, heading_of, image, BLOCK, CHECKED, EDITION, FRONT, OLD_EDITION, PAYLOAD};
 
-/// Where a block's number, save number, count and check lie, in the order they are judged.
-const FIELDS: [usize; 4] = [0, 8, 4, CHECKED];
+/// Where a block's number, save number, edition, count and check lie, and how many bytes each
+/// has, in the order they are judged.
+const FIELDS: [(usize, usize); 5] = [(0, 4), (8, 4), (6, 2), (4, 2), (CHECKED, 4)];
+const CHECK: usize = 4;
 /// Most bytes of one patch: a line holds no more.
 const PIECE: usize = 19_000;
+
+/// What lies in a file: records one behind the other, each with a heading of so many bytes.
+pub(super) struct Laid {
+    pub(super) heading: usize,
+    pub(super) records: Vec<Record>,
+    pub(super) blocks: usize,
+}
+
+impl Laid {
+    pub(super) fn new(edition: u16, records: Vec<Record>) -> Laid {
+        let mut laid = Laid {
+            heading: heading_of(edition),
+            records,
+            blocks: 0,
+        };
+        laid.blocks = laid.payload().len().div_ceil(PAYLOAD).max(1);
+        laid
+    }
+
+    pub(super) fn payload(&self) -> Vec<u8> {
+        match self.heading {
+            OLD_HEADING => self.records.iter().flat_map(Record::old_bytes).collect(),
+            _ => self.records.iter().flat_map(Record::bytes).collect(),
+        }
+    }
+
+    fn cost(&self, record: &Record) -> usize {
+        self.heading + record.text.len() + record.dictionary.len()
+    }
+}
 
 impl Script<'_> {
     /// A log laid out for its saves, and what befalls them.
@@ -23,12 +55,13 @@ impl Script<'_> {
     }
 
     pub(super) fn trail_scene(&mut self) {
-        match self.random.below(20) {
+        match self.random.below(30) {
             0 => self.saves(),
             1 | 2 => self.power_cut(),
             3 => self.every_cut(),
             4 => self.forged_file(),
             5 => self.odd_files(),
+            6..=15 => self.editions_scene(),
             _ => self.harm(),
         }
     }
@@ -75,19 +108,19 @@ impl Script<'_> {
                 // The last block is full, or has one byte less or more.
                 let blocks = self.random.within(1, 5);
                 let end = blocks * PAYLOAD as u64 + self.random.pick(&[1, 1, 1, 0, 2]) - 1;
-                let most = self.random.pick(&[60, 300, BULK + HEADING]);
+                let most = self.random.pick(&[80, 300, BULK + HEADING]);
                 self.lay_to(end, most);
             }
             _ => {
                 for block in 1..=self.random.within(1, 4) {
                     // So many bytes of a heading, or of what comes behind it, lie before the border.
                     let before = match self.random.below(5) {
-                        0 => self.random.within(24, 60),
-                        _ => self.random.below(28),
+                        0 => self.random.within(32, 70),
+                        _ => self.random.below(36),
                     };
                     self.lay_to(block * PAYLOAD as u64 - before, BULK + HEADING);
                 }
-                let last = self.random.within(24, 700);
+                let last = self.random.within(HEADING as u64, 700);
                 let end = self.numbers().used + last;
                 self.lay_to(end, BULK + HEADING);
             }
@@ -121,9 +154,9 @@ impl Script<'_> {
             };
             let (facility, level) = (self.random.below(256), self.random.below(8));
             let time = self.time();
-            let fragment = self.fragment();
+            let last = self.last_words();
             self.say(format!(
-                "box {facility} {level} {time} {} {}{fragment}",
+                "box {facility} {level} {time} {} {}{last}",
                 hex(&text),
                 hex(&dictionary)
             ));
@@ -134,13 +167,13 @@ impl Script<'_> {
         }
     }
 
-    fn save_number(&mut self) -> u32 {
+    pub(super) fn save_number(&mut self) -> u32 {
         let any = self.random.any() as u32;
         self.random
             .pick(&[any, any, 0, 1, 496, 0xa5a5_a5a5, u32::MAX, 1 << 31])
     }
 
-    fn other_number(&mut self, number: u32) -> u32 {
+    pub(super) fn other_number(&mut self, number: u32) -> u32 {
         let other = match self.random.below(4) {
             0 => number.wrapping_add(1),
             1 => number.swap_bytes(),
@@ -160,7 +193,7 @@ impl Script<'_> {
     }
 
     /// Blocks of the image; 0 where there is none.
-    fn blocks(&self) -> usize {
+    pub(super) fn blocks(&self) -> usize {
         self.machine.image.as_ref().map_or(0, Vec::len) / BLOCK
     }
 
@@ -170,7 +203,7 @@ impl Script<'_> {
     }
 
     /// Saves the log as it stands, maybe after a refused try; false where that was not done.
-    fn save(&mut self, number: u32) -> bool {
+    pub(super) fn save(&mut self, number: u32) -> bool {
         let Some(payload) = self.payload() else {
             let length = self.random.pick(&[0, 512, 90_000]);
             self.say(format!("save {number} {length}"));
@@ -204,7 +237,7 @@ impl Script<'_> {
     fn saved(&mut self) -> bool {
         if let (Some(payload), Some(old)) = (self.payload(), &self.machine.image) {
             let number = u32::from_le_bytes(old[8..12].try_into().unwrap());
-            if image(&payload, number) == *old {
+            if image(&payload, number, EDITION) == *old {
                 return true;
             }
         }
@@ -303,10 +336,10 @@ impl Script<'_> {
         }
     }
 
-    /// A file of the image alone, or with something behind it; false where the log fails.
-    fn whole_file(&mut self) -> bool {
+    /// A file of the image alone, or with something behind it; none where the log fails.
+    fn whole_file(&mut self) -> Option<Laid> {
         if !self.saved() {
-            return false;
+            return None;
         }
         let image = self.blocks() * BLOCK;
         let length = match self.random.below(4) {
@@ -316,40 +349,46 @@ impl Script<'_> {
         let fill = self.fill_byte();
         self.say(format!("disk {length} {fill}"));
         self.say("cut 200");
-        true
+        let records = self.log().records()?.iter().cloned().collect();
+        Some(Laid::new(EDITION, records))
     }
 
-    /// Damage to a whole file, one kind or two at once.
+    /// Damage to a whole file.
     fn harm(&mut self) {
-        if !self.whole_file() {
-            return;
+        if let Some(laid) = self.whole_file() {
+            self.harm_laid(&laid);
+            self.read_trail(80);
         }
+    }
+
+    /// Damage of one kind or two at once to a file that begins with what is laid.
+    pub(super) fn harm_laid(&mut self, laid: &Laid) {
         for _ in 0..self.random.pick(&[1, 1, 1, 2]) {
             match self.random.below(13) {
-                0..=3 => self.harm_block(),
-                4..=7 => self.harm_heading(),
-                8 | 9 => self.harm_dictionary(),
-                10 | 11 => self.harm_count(),
-                _ => self.renumber(),
+                0..=3 => self.harm_block(laid.blocks),
+                4..=7 => self.harm_heading(laid),
+                8 | 9 => self.harm_dictionary(laid),
+                10 | 11 => self.harm_count(laid),
+                _ => self.renumber(laid),
             }
         }
-        self.read_trail(80);
     }
 
-    fn patch(&mut self, place: usize, bytes: &[u8]) {
+    pub(super) fn patch(&mut self, place: usize, bytes: &[u8]) {
         for (i, piece) in bytes.chunks(PIECE).enumerate() {
             self.say_hex(&format!("patch {}", place + i * PIECE), piece);
         }
     }
 
-    /// The file's word of 4 bytes at a place that it reaches.
-    fn word(&self, place: usize) -> Option<u32> {
-        let bytes = self.machine.file.as_ref()?.get(place..place + 4)?;
-        Some(u32::from_le_bytes(bytes.try_into().unwrap()))
+    /// The file's number of so many bytes at a place that it reaches.
+    fn word(&self, place: usize, width: usize) -> Option<u32> {
+        let bytes = self.machine.file.as_ref()?.get(place..place + width)?;
+        let value = |sum: u32, &byte: &u8| sum << 8 | u32::from(byte);
+        Some(bytes.iter().rev().fold(0, value))
     }
 
     /// Gives a block the check that it should have.
-    fn seal(&mut self, block: usize) {
+    pub(super) fn seal(&mut self, block: usize) {
         let from = block * BLOCK;
         let file = self.machine.file.as_ref();
         if let Some(bytes) = file.and_then(|file| file.get(from..from + CHECKED)) {
@@ -376,12 +415,13 @@ impl Script<'_> {
     }
 
     /// Makes one field of a block wrong.
-    fn wrong_field(&mut self, block: usize, field: usize) {
-        let place = block * BLOCK + FIELDS[field];
-        let Some(old) = self.word(place) else {
+    pub(super) fn wrong_field(&mut self, block: usize, field: usize) {
+        let (place, width) = FIELDS[field];
+        let place = block * BLOCK + place;
+        let Some(old) = self.word(place, width) else {
             return;
         };
-        let bit = old ^ (1 << self.random.below(32));
+        let bit = old ^ (1 << self.random.below(8 * width as u64));
         let choices = match field {
             0 => [
                 bit,
@@ -392,28 +432,38 @@ impl Script<'_> {
                 u32::MAX,
             ],
             1 => [bit, bit, old.wrapping_add(1), !old, 0, old.swap_bytes()],
-            2 => [497, 512, 496 | 1 << 16, 1 << 31, u32::MAX, 497],
+            // The other edition as often as one that there is none of.
+            2 => [old ^ 1, old ^ 1, bit, 2, 256, 65_535],
+            3 => [497, 512, 496 | 1 << 15, 65_535, 65_535, 497],
             _ => [bit, bit, !old, 0, old.swap_bytes(), old.wrapping_add(1)],
         };
         let value = self.random.pick(&choices);
-        self.patch(place, &value.to_le_bytes());
+        self.patch(place, &value.to_le_bytes()[..width]);
+    }
+
+    /// The count of a block, most times with the right check for it.
+    fn put_count(&mut self, block: usize, count: usize) {
+        self.patch(block * BLOCK + 4, &(count as u16).to_le_bytes());
+        if self.random.chance(92) {
+            self.seal(block);
+        }
     }
 
     /// One to three fields of a block wrong, maybe under a right check.
-    fn harm_block(&mut self) {
-        let block = self.random.below(self.blocks() as u64) as usize;
+    fn harm_block(&mut self, blocks: usize) {
+        let block = self.random.below(blocks as u64) as usize;
         let mut check = false;
         for _ in 0..self.random.pick(&[1, 1, 2, 2, 3]) {
-            let field = self.random.below(4) as usize;
+            let field = self.random.below(FIELDS.len() as u64) as usize;
             self.wrong_field(block, field);
-            check |= field == 3;
+            check |= field == CHECK;
         }
         if !check && self.random.chance(40) {
             self.seal(block);
         }
         if self.random.chance(10) {
-            let other = self.random.below(self.blocks() as u64) as usize;
-            let field = self.random.below(4) as usize;
+            let other = self.random.below(blocks as u64) as usize;
+            let field = self.random.below(FIELDS.len() as u64) as usize;
             self.wrong_field(other, field);
         }
     }
@@ -422,24 +472,23 @@ impl Script<'_> {
     fn beside(&mut self, at: usize) {
         if self.random.chance(50) {
             let block = at / PAYLOAD + usize::from(self.random.chance(70));
-            let field = self.random.pick(&[0, 1, 2, 3, 3, 3]);
+            let field = self.random.pick(&[0, 1, 2, 3, CHECK, CHECK, CHECK]);
             self.wrong_field(block, field);
         }
     }
 
-    /// A record of the image and where its bytes begin, by choice near a border.
-    fn any_record(&mut self) -> Option<(usize, Record)> {
-        let held = self.log().records()?.clone();
+    /// A record and where its bytes begin, by choice near a border.
+    fn any_record(&mut self, laid: &Laid) -> Option<(usize, Record)> {
         let mut place = 0;
         let mut all = Vec::new();
         let mut near = Vec::new();
-        for record in held {
-            let ends = [0, HEADING, record.cost()];
-            if ends.iter().any(|end| (place + end + 24) % PAYLOAD < 48) {
+        for record in &laid.records {
+            let cost = laid.cost(record);
+            let ends = [0, laid.heading, cost];
+            if ends.iter().any(|end| (place + end + 32) % PAYLOAD < 64) {
                 near.push(all.len());
             }
-            let cost = record.cost();
-            all.push((place, record));
+            all.push((place, record.clone()));
             place += cost;
         }
         // What lies far behind takes long to be read.
@@ -453,13 +502,15 @@ impl Script<'_> {
     }
 
     /// A heading that breaks a rule, or comes close to it.
-    fn harm_heading(&mut self) {
-        let Some((place, record)) = self.any_record() else {
+    fn harm_heading(&mut self, laid: &Laid) {
+        let Some((place, record)) = self.any_record(laid) else {
             return;
         };
         let (text, dictionary) = (record.text.len() as u16, record.dictionary.len() as u16);
         let total = text + dictionary;
-        let (at, bytes): (usize, Vec<u8>) = match self.random.below(9) {
+        // Only the longer heading has a caller and zeros behind it; in an older trail these places
+        // are text, dictionary or the next heading.
+        let (at, bytes): (usize, Vec<u8>) = match self.random.below(12) {
             0 | 1 => {
                 let number = match self.random.below(3) {
                     0 => self
@@ -499,21 +550,23 @@ impl Script<'_> {
                 (20, prefix.to_le_bytes().into())
             }
             7 => (22, vec![self.heading_flag()]),
-            _ => (23, vec![self.random.pick(&[1, 45, 128, 255])]),
+            8 => (23, vec![self.random.pick(&[1, 45, 128, 255])]),
+            9 => (24, self.caller().to_le_bytes().into()),
+            _ => self.heading_zero(),
         };
         self.put(place + at, &bytes);
-        self.beside(place + HEADING - 1);
+        self.beside(place + laid.heading - 1);
     }
 
     /// A dictionary that breaks its rule, most times at its last byte.
-    fn harm_dictionary(&mut self) {
-        let Some((place, record)) = self.any_record() else {
+    fn harm_dictionary(&mut self, laid: &Laid) {
+        let Some((place, record)) = self.any_record(laid) else {
             return;
         };
         let Some(last) = record.dictionary.len().checked_sub(1) else {
             return;
         };
-        let at = place + HEADING + record.text.len();
+        let at = place + laid.heading + record.text.len();
         let (inside, bytes) = match self.random.below(6) {
             0 => (0, vec![self.random.pick(b"=\0a")]),
             1 => (1.min(last), vec![self.random.pick(b"=\0a")]),
@@ -529,36 +582,46 @@ impl Script<'_> {
     }
 
     /// A block that counts fewer bytes and ends inside a record, or more than there are.
-    fn harm_count(&mut self) {
-        let total = self.payload().map_or(0, |payload| payload.len());
-        let end = match self.any_record() {
+    fn harm_count(&mut self, laid: &Laid) {
+        let total = laid.payload().len();
+        // Both lengths that a heading may have.
+        let ends = [22, 23, 24, 25, 30, 31, 32, 33];
+        let end = match self.any_record(laid) {
             Some((place, record)) if self.random.chance(75) => {
-                let (text, cost) = (HEADING + record.text.len(), record.cost());
+                let (text, cost) = (laid.heading + record.text.len(), laid.cost(&record));
                 let any = self.random.below(cost as u64) as usize;
-                let inside =
-                    self.random
-                        .pick(&[0, 1, 22, 23, 24, text - 1, text, cost - 1, cost, any]);
+                let heading = self.random.pick(&ends);
+                let inside = self.random.pick(&[
+                    0,
+                    1,
+                    heading,
+                    heading,
+                    text - 1,
+                    text,
+                    cost - 1,
+                    cost,
+                    any,
+                ]);
                 place + inside
             }
-            _ => total + self.random.pick(&[1, 22, 23, 24, 25, 48, 100]),
+            _ => {
+                let heading = self.random.pick(&ends);
+                total + self.random.pick(&[1, heading, heading, 48, 100])
+            }
         };
         let mut block = end / PAYLOAD;
         let mut count = end % PAYLOAD;
-        if self.random.chance(15) {
-            block = self.random.below(self.blocks() as u64) as usize;
-            count = self.random.pick(&[0, 1, 495, 496]);
+        if self.random.chance(20) {
+            block = self.random.below(laid.blocks as u64) as usize;
+            count = self.random.pick(&[0, 1, 495, 496, 497, 65_535]);
         }
-        if block < self.blocks() {
-            self.patch(block * BLOCK + 4, &(count as u32).to_le_bytes());
-            if self.random.chance(90) {
-                self.seal(block);
-            }
+        if block < laid.blocks {
+            self.put_count(block, count);
         }
     }
 
     /// Other numbers for the first records, such as go past the highest.
-    fn renumber(&mut self) {
-        let records = self.log().records().cloned().unwrap_or_default();
+    fn renumber(&mut self, laid: &Laid) {
         let first = match self.random.below(3) {
             0 => self.random.any(),
             1 => u64::MAX,
@@ -566,18 +629,17 @@ impl Script<'_> {
         };
         let step = self.random.pick(&[1, 1, 1, 0]);
         let mut place = 0;
-        for (i, record) in records.iter().take(6).enumerate() {
+        for (i, record) in laid.records.iter().take(6).enumerate() {
             let number = first.wrapping_add(i as u64 * step);
             self.put(place + 8, &number.to_le_bytes());
-            place += record.cost();
+            place += laid.cost(record);
         }
-        if self.random.chance(40) && !records.is_empty() {
+        if let Some(record) = laid.records.first().filter(|_| self.random.chance(40)) {
             // Nothing behind the first record, or something begun.
-            let end = records[0].cost() + self.random.pick(&[0, 1, 23, 24]);
-            if end.div_ceil(PAYLOAD) <= self.blocks() {
-                let (block, count) = (end / PAYLOAD, end % PAYLOAD);
-                self.patch(block * BLOCK + 4, &(count as u32).to_le_bytes());
-                self.seal(block);
+            let begun = self.random.pick(&[0, 1, laid.heading - 1, laid.heading]);
+            let end = laid.cost(record) + begun;
+            if end.div_ceil(PAYLOAD) <= laid.blocks {
+                self.put_count(end / PAYLOAD, end % PAYLOAD);
             }
         }
     }
@@ -591,7 +653,8 @@ impl Script<'_> {
         };
         let count = self.random.below(7);
         let flaw = self.random.below(count * 2 + 1);
-        let mut payload = Vec::new();
+        let edition = self.random.pick(&[EDITION, OLD_EDITION]);
+        let mut records = Vec::new();
         for i in 0..count {
             let length = self.length();
             let text = self.bytes(length);
@@ -601,14 +664,16 @@ impl Script<'_> {
                 sequence: first.wrapping_add(i),
                 prefix: self.random.below(2_048) as u16,
                 flag: self.any_flag(),
+                caller: self.caller(),
                 text,
                 dictionary,
             };
             if i == flaw {
                 self.flaw(&mut record);
             }
-            payload.extend(record.bytes());
+            records.push(record);
         }
+        let mut payload = Laid::new(edition, records).payload();
         match self.random.below(4) {
             0 => {
                 let less = self.random.within(1, 30) as usize;
@@ -622,7 +687,7 @@ impl Script<'_> {
             _ => (),
         }
         let number = self.save_number();
-        let mut bytes = image(&payload, number);
+        let mut bytes = image(&payload, number, edition);
         if self.random.chance(20) {
             bytes.pop();
         }
@@ -645,7 +710,8 @@ impl Script<'_> {
             0 => {
                 // One block with count 0, also where the file is too short for it.
                 let number = self.save_number();
-                self.patch(0, &image(&[], number));
+                let edition = self.random.pick(&[EDITION, OLD_EDITION, 2]);
+                self.patch(0, &image(&[], number, edition));
             }
             1 => {
                 self.say(format!("patch {length} 00"));
@@ -671,7 +737,7 @@ impl Script<'_> {
     }
 
     /// A fresh reader that reads to the end and beyond, if it is not too far.
-    fn read_trail(&mut self, most: usize) {
+    pub(super) fn read_trail(&mut self, most: usize) {
         self.say("trail");
         for _ in 0..most {
             if self.machine.trail.as_ref().is_none_or(|trail| trail.over()) {

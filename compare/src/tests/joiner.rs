@@ -32,24 +32,27 @@ fn a_fragment_has_its_flag() {
     // 5,000,999 is 4c4f27 in hex, prefix 134 is 86, 'c' is 63.
     play.is("box 16 6 5000999 6162 - 1", "2 0");
     play.is(
-        "peek 0 27",
-        "274f4c000000000000000000000000000200000086006300616207",
+        "peek 0 35",
+        "274f4c0000000000000000000000000002000000860063000000000000000000616207",
     );
     play.is("check", "fine");
-    play.is("read 0 5000", &format!("16 0 {}", x("134,0,5000,c;ab\n")));
+    play.is(
+        "read 0 5000",
+        &format!("25 0 {}", x("134,0,5000,c,caller=0;ab\n")),
+    );
     // 0, or left out, is none; nor is a write from outside.
     play.is("box 16 6 0 61 - 0", "1 0");
     play.is("box 16 6 0 61 -", "1 0");
     play.is("outside 0 61", "1 0");
-    for (number, prefix, length) in [(1, 134, 12), (2, 134, 12), (3, 12, 11)] {
-        let line = x(&format!("{prefix},{number},0,-;a\n"));
+    for (number, prefix, length) in [(1, 134, 21), (2, 134, 21), (3, 12, 20)] {
+        let line = x(&format!("{prefix},{number},0,-,caller=0;a\n"));
         play.is("read 0 5000", &format!("{length} 0 {line}"));
     }
-    // Flags at 26 + 22, 51 + 22 and 76 + 22.
-    for place in [48, 73, 98] {
+    // Flags at 34 + 22, 67 + 22 and 100 + 22.
+    for place in [56, 89, 122] {
         play.is(&format!("peek {place} 1"), "2d");
     }
-    play.is("numbers", "0 101 0 4 0 0 0 7 1 -");
+    play.is("numbers", "0 133 0 4 0 0 0 7 1 -");
     // The syslog form has no flag: 5 + 2 + 1, 2 x (5 + 1 + 1), 4 + 1 + 1.
     play.is("command 9 0 1 0 0", "28 -");
 }
@@ -92,12 +95,15 @@ fn headings_allow_two_flags() {
         play.is(&format!("poke 22 {byte:02x}"), "poked");
         play.is("check", if fits { "fine" } else { "heading 0" });
         play.is("poke 22 63", "poked");
-        play.is(&format!("poke 47 {byte:02x}"), "poked");
+        play.is(&format!("poke 55 {byte:02x}"), "poked");
         play.is("check", if fits { "fine" } else { "heading 1" });
-        play.is("poke 47 2d", "poked");
+        play.is("poke 55 2d", "poked");
     }
     play.is("reader", "reader 0");
-    play.is("read 0 5000", &format!("11 0 {}", x("12,0,0,c;a\n")));
+    play.is(
+        "read 0 5000",
+        &format!("20 0 {}", x("12,0,0,c,caller=0;a\n")),
+    );
 }
 
 #[test]
@@ -105,28 +111,30 @@ fn trails_carry_the_flag() {
     let mut play = Play::new(&["log 1024 0"]);
     play.is("box 16 6 5000999 6162 6b3d76 1", "5 0");
     play.is("box 16 6 5001000 63 - 0", "1 0");
-    // Costs 29 and 25, 36 in hex. The checks are zlib's.
-    let records = "274f4c00000000000000000000000000020003008600630061626b3d76\
-                   284f4c000000000001000000000000000100000086002d0063";
-    let spare = many(0, 442);
-    let block = format!("000000003600000009000000{records}{spare}c79e1038");
+    // Costs 37 and 33, 46 in hex. The checks are zlib's.
+    let records = "274f4c0000000000000000000000000002000300860063000000000000000000\
+                   61626b3d76\
+                   284f4c000000000001000000000000000100000086002d000000000000000000\
+                   63";
+    let spare = many(0, 426);
+    let block = format!("000000004600010009000000{records}{spare}0cc5d66e");
     play.is("save 9 512", &format!("512 {block}"));
     play.is("disk 0 0", "disk");
-    let fragment = "record 0 5000999 134 99 6162 6b3d76";
-    let whole = "record 1 5001000 134 45 63 -";
+    let fragment = "record 0 5000999 134 99 6162 6b3d76 0 1";
+    let whole = "record 1 5001000 134 45 63 - 0 1";
     for (patches, wanted) in [
         (&[][..], &[fragment, whole, "end"][..]),
-        (&["34 2b", "508 22c286e3"], &["stop record 0"]),
-        (&["34 62", "508 016c195b"], &["stop record 0"]),
-        (&["34 64", "508 d4445cca"], &["stop record 0"]),
-        (&["63 2b", "508 1500f31e"], &[fragment, "stop record 1"]),
+        (&["34 2b", "508 e99940b5"], &["stop record 0"]),
+        (&["34 62", "508 ca37df0d"], &["stop record 0"]),
+        (&["34 64", "508 1f1f9a9c"], &["stop record 0"]),
+        (&["71 2b", "508 f5657673"], &[fragment, "stop record 1"]),
         (
-            &["34 2d", "508 f7eac372"],
-            &["record 0 5000999 134 45 6162 6b3d76", whole, "end"],
+            &["34 2d", "508 3cb10524"],
+            &["record 0 5000999 134 45 6162 6b3d76 0 1", whole, "end"],
         ),
         (
-            &["63 63", "508 6f6cba6a"],
-            &[fragment, "record 1 5001000 134 99 63 -", "end"],
+            &["71 63", "508 08e88ae9"],
+            &[fragment, "record 1 5001000 134 99 63 - 0 1", "end"],
         ),
     ] {
         play.is("cut 1", "cut 512");
@@ -373,17 +381,17 @@ fn the_logs_own_lines() {
     let mut play = Play::new(&["log 4096 0", "reader", "joiner 0"]);
     for (write, answer) in [
         ("box 20 3 0 4741 - 1", "2 0"),
-        ("box 20 3 1000 4f41 - 1", "2 0"),
+        ("box 20 3 1000 4f41 - 1 4294967295", "2 0"),
         ("box 21 3 2000 78 - 1", "1 0"),
         ("box 20 3 3000 4c - 0", "1 0"),
     ] {
         play.is(write, answer);
     }
     for (line, answer) in [
-        ("163,0,0,c;GA\n", "0"),
-        ("163,1,1,c;OA\n", "0"),
-        ("171,2,2,c;x\n", "0"),
-        ("163,3,3,-;L\n", "0 20 47414f41 20 4c"),
+        ("163,0,0,c,caller=0;GA\n", "0"),
+        ("163,1,1,c,caller=4294967295;OA\n", "0"),
+        ("171,2,2,c,caller=0;x\n", "0"),
+        ("163,3,3,-,caller=0;L\n", "0 20 47414f41 20 4c"),
     ] {
         play.is("read 0 5000", &format!("{} 0 {}", line.len(), x(line)));
         play.is(&format!("join {}", x(line)), answer);
@@ -710,7 +718,7 @@ fn joiner_runs() {
 #[test]
 fn fragments_in_plain_scripts() {
     let mut met = BTreeMap::new();
-    for (kind, seeds) in [(Kind::Plain, 6), (Kind::Wide, 2), (Kind::Trail, 2)] {
+    for (kind, seeds) in [(Kind::Plain, 10), (Kind::Wide, 2), (Kind::Trail, 2)] {
         for seed in 0..seeds {
             for (case, count) in met_by(&script_of(kind, seed, 6_000)) {
                 *met.entry(case).or_insert(0) += count;

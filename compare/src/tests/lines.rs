@@ -85,12 +85,12 @@ fn from_outside_one_final_newline_is_no_text() {
 #[test]
 fn the_kmsg_line_stays() {
     let mut play = of("1 4", "a\n\nb");
-    let line = "12,0,0,-;a\\x0a\\x0ab\n";
-    play.is("read 0 5000", &format!("20 0 {}", x(line)));
+    let line = "12,0,0,-,caller=0;a\\x0a\\x0ab\n";
+    play.is("read 0 5000", &format!("29 0 {}", x(line)));
     // A dictionary has no part in the form, newlines or not.
     play.is(&format!("box 1 4 0 61 {}", x("k=\n\0l=\n")), "8 0");
-    let line = "12,1,0,-;a\n k=\\x0a\n l=\\x0a\n";
-    play.is("read 0 5000", &format!("27 0 {}", x(line)));
+    let line = "12,1,0,-,caller=0;a\n k=\\x0a\n l=\\x0a\n";
+    play.is("read 0 5000", &format!("36 0 {}", x(line)));
     play.gives("<12>a\n<12>\n<12>b\n<12>a\n");
 }
 
@@ -116,7 +116,7 @@ fn command_2_cut_at_every_byte() {
             15..=24 => format!("1 {}", cut - 15),
             _ => "2 0".into(),
         };
-        play.is("numbers", &format!("0 53 0 2 0 {place} 7 1 -"));
+        play.is("numbers", &format!("0 69 0 2 0 {place} 7 1 -"));
         play.is("check", "fine");
         play.is("command 9 0 1 0 0", &format!("{} -", 25 - cut));
         let rest = match cut {
@@ -124,7 +124,7 @@ fn command_2_cut_at_every_byte() {
             _ => format!("{} {}", 25 - cut, x(&TWO[cut..])),
         };
         play.is("command 2 99 1 0 99", &rest);
-        play.is("numbers", "0 53 0 2 0 2 0 7 1 -");
+        play.is("numbers", "0 69 0 2 0 2 0 7 1 -");
     }
 }
 
@@ -143,7 +143,7 @@ fn commands_3_and_4_cut_at_every_byte() {
         play.is("command 3 99 1 0 99", "0 -");
         // Command 2 has read nothing.
         play.is("command 9 0 1 0 0", "25 -");
-        play.is("numbers", "0 53 0 2 2 0 0 7 1 -");
+        play.is("numbers", "0 69 0 2 2 0 0 7 1 -");
     }
     // From the clear mark on: the second record alone.
     let mut play = two();
@@ -154,38 +154,38 @@ fn commands_3_and_4_cut_at_every_byte() {
 
 #[test]
 fn dropped_while_inside_a_later_line() {
-    // Costs 28 and 25; with 984 more the first is dropped. The dictionary makes no form longer.
-    let filler = format!("box 1 4 0 - {}{}", x("k="), many(b'v', 958));
+    // Costs 36 and 33; with 991 more the first is dropped. The dictionary makes no form longer.
+    let filler = format!("box 1 4 0 - {}{}", x("k="), many(b'v', 957));
     for cut in 1..15 {
         let mut play = two();
         play.is(
             &format!("command 2 {cut} 1 0 {cut}"),
             &format!("{cut} {}", x(&TWO[..cut])),
         );
-        play.is(&filler, "960 1");
-        play.is("numbers", &format!("28 1009 1 3 0 0 {cut} 7 1 -"));
+        play.is(&filler, "959 1");
+        play.is("numbers", &format!("36 1024 1 3 0 0 {cut} 7 1 -"));
         play.is("check", "fine");
         play.is("command 9 0 1 0 0", "15 -");
         play.is("command 2 0 1 0 0", "0 -");
-        play.is("numbers", &format!("28 1009 1 3 0 0 {cut} 7 1 -"));
+        play.is("numbers", &format!("36 1024 1 3 0 0 {cut} 7 1 -"));
         play.is("command 2 6 1 0 6", &format!("6 {}", x("<12>\n<")));
-        play.is("numbers", "28 1009 1 3 0 1 6 7 1 -");
+        play.is("numbers", "36 1024 1 3 0 1 6 7 1 -");
         play.is("command 9 0 1 0 0", "9 -");
         play.is("command 2 99 1 0 99", &format!("9 {}", x("12>\n<12>\n")));
-        play.is("numbers", "28 1009 1 3 0 3 0 7 1 -");
+        play.is("numbers", "36 1024 1 3 0 3 0 7 1 -");
     }
 }
 
 #[test]
 fn over_the_buffers_end() {
-    // The cost is 30, so the record may have 0 to 30 bytes at the end.
-    for here in 0..=30 {
+    // The cost is 38, so the record may have 0 to 38 bytes at the end.
+    for here in 0..=38 {
         let start = (1024 - here) % 1024;
         let mut play = Play::new(&["log 1024 10", &format!("number start {start}")]);
         play.is(&format!("box 16 6 0 {} -", x("\na\n\nb\n")), "6 0");
         play.is("check", "fine");
         play.gives("<134>\n<134>a\n<134>\n<134>b\n<134>\n");
-        play.is("numbers", &format!("{start} 30 0 1 0 1 0 7 1 -"));
+        play.is("numbers", &format!("{start} 38 0 1 0 1 0 7 1 -"));
     }
 }
 
@@ -202,17 +202,17 @@ fn the_longest_form() {
         "command 2 6726 1 0 6726",
         &format!("6726 {}", x(&form[..6_726])),
     );
-    play.is("numbers", "0 984 0 1 0 0 6726 7 1 -");
+    play.is("numbers", "0 992 0 1 0 0 6726 7 1 -");
     play.is("check", "fine");
     play.is("command 9 0 1 0 0", "1 -");
     play.is("number offset 6727", "set");
     play.is("check", "numbers");
     play.is("number offset 6726", "set");
-    // 984 and 41 bytes are one too many: dropped, its offset stays and fits.
-    play.is(&format!("outside 0 {}", many(b'p', 17)), "17 1");
-    play.is("numbers", "984 41 1 2 0 0 6726 7 1 -");
+    // 992 and 33 bytes are one too many: dropped, its offset stays and fits.
+    play.is("outside 0 70", "1 1");
+    play.is("numbers", "992 33 1 2 0 0 6726 7 1 -");
     play.is("check", "fine");
-    play.is("command 9 0 1 0 0", "22 -");
+    play.is("command 9 0 1 0 0", "6 -");
     play.is("number offset 6727", "set");
     play.is("check", "numbers");
     play.all_unmoved(&["outside 0 61"], "-77 0");
@@ -220,7 +220,7 @@ fn the_longest_form() {
     play.all_unmoved(&["read 0 5000"], "-77 0 -");
     play.is("number offset 6726", "set");
     play.is("command 2 4 1 0 4", &format!("4 {}", x("<12>")));
-    play.is("numbers", "984 41 1 2 0 1 4 7 1 -");
+    play.is("numbers", "992 33 1 2 0 1 4 7 1 -");
 }
 
 #[test]
@@ -251,23 +251,23 @@ fn the_offset_of_a_held_record() {
 
 #[test]
 fn newlines_put_into_a_text_by_hand() {
-    // "abc" lies at 24: "<12>abc\n" has 8 bytes, "<12>a\n<12>c\n" 12.
+    // "abc" lies at 32: "<12>abc\n" has 8 bytes, "<12>a\n<12>c\n" 12.
     let mut play = of("1 4", "abc");
     play.is("number offset 7", "set");
     play.is("command 9 0 1 0 0", "1 -");
-    play.is("poke 25 0a", "poked");
+    play.is("poke 33 0a", "poked");
     play.is("command 9 0 1 0 0", "5 -");
     play.is("command 2 9 1 0 9", &format!("5 {}", x("12>c\n")));
-    play.is("numbers", "0 27 0 1 0 1 0 7 1 -");
+    play.is("numbers", "0 35 0 1 0 1 0 7 1 -");
     play.all(&["number position 0", "number offset 11"], "set");
     play.is("check", "fine");
     // The form is shorter again, and the offset too high.
-    play.is("poke 25 62", "poked");
+    play.is("poke 33 62", "poked");
     play.is("check", "numbers");
     play.all_unmoved(&["command 9 0 1 0 0"], "-77 -");
-    play.is("poke 25 0a", "poked");
+    play.is("poke 33 0a", "poked");
     play.is("command 9 0 1 0 0", "1 -");
-    play.is("poke 24 0a0a0a", "poked");
+    play.is("poke 32 0a0a0a", "poked");
     play.is("command 9 0 1 0 0", "9 -");
     play.is("number offset 0", "set");
     play.gives("<12>\n<12>\n<12>\n<12>\n");
@@ -280,16 +280,16 @@ fn the_largest_count() {
     for _ in 0..66 {
         play.is(&long, "960 0");
     }
-    // 66 records of 984 bytes leave room for one of 592.
-    play.is(&format!("box 255 7 0 {} -", many(b'\n', 568)), "568 0");
+    // 66 records of 992 bytes leave room for one of 64.
+    play.is(&format!("box 255 7 0 {} -", many(b'\n', 32)), "32 0");
     play.is("numbers", "0 65536 0 67 0 0 0 7 1 -");
-    // 66 x 961 + 569 lines of 7 bytes.
-    play.is("command 9 0 1 0 0", "447965 -");
-    let all = "<2047>\n".repeat(63_995);
-    assert_eq!(all.len(), 447_965);
+    // 66 x 961 + 33 lines of 7 bytes.
+    play.is("command 9 0 1 0 0", "444213 -");
+    let all = "<2047>\n".repeat(63_459);
+    assert_eq!(all.len(), 444_213);
     play.is(
         "command 3 300000 1 0 300000",
-        &format!("300000 {}", x(&all[147_965..])),
+        &format!("300000 {}", x(&all[144_213..])),
     );
     play.is(
         "command 2 300000 1 0 300000",
@@ -297,16 +297,16 @@ fn the_largest_count() {
     );
     // 44 forms of 6,727 bytes are 295,988.
     play.is("numbers", "0 65536 0 67 0 44 4012 7 1 -");
-    play.is("command 9 0 1 0 0", "147965 -");
+    play.is("command 9 0 1 0 0", "144213 -");
     play.is(
         "command 2 300000 1 0 300000",
-        &format!("147965 {}", x(&all[300_000..])),
+        &format!("144213 {}", x(&all[300_000..])),
     );
     play.is("numbers", "0 65536 0 67 0 67 0 7 1 -");
-    // 984 bytes make room for 24.
+    // 992 bytes make room for 32.
     play.is("number position 0", "set");
     play.is("outside 0 -", "0 1");
-    play.is("command 9 0 1 0 0", "441243 -");
+    play.is("command 9 0 1 0 0", "437491 -");
 }
 
 /// The length is counted apart from the form itself; both say the same.
@@ -321,6 +321,7 @@ fn lengths_of_forms() {
                     sequence: 0,
                     prefix,
                     flag: b'-',
+                    caller: 0,
                     text: text.collect(),
                     dictionary: Vec::new(),
                 };

@@ -1,7 +1,9 @@
 //! Cases with answers worked out by hand from document 01, as document 02 amends it.
 
+mod callers;
 mod check;
 mod console;
+mod editions;
 mod joiner;
 mod lines;
 mod moments;

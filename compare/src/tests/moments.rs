@@ -14,7 +14,7 @@ fn first_goal() -> Play {
 #[test]
 fn t1() {
     let mut play = first_goal();
-    play.is("numbers", "0 35 0 1 0 0 0 7 1 -");
+    play.is("numbers", "0 43 0 1 0 0 0 7 1 -");
     let bytes = concat!(
         "274f4c0000000000",
         "0000000000000000",
@@ -23,12 +23,15 @@ fn t1() {
         "8600",
         "2d",
         "00",
+        "00000000",
+        "00000000",
         "474f414c20686f6d652031",
         "a5"
     );
-    play.is("peek 0 36", bytes);
-    let line = x("134,0,5000,-;GOAL home 1\n");
-    play.is("read 0 25", &format!("25 0 {line}"));
+    play.is("peek 0 44", bytes);
+    let line = x("134,0,5000,-,caller=0;GOAL home 1\n");
+    play.is("read 0 33", "-22 0 -");
+    play.is("read 0 34", &format!("34 0 {line}"));
     play.is("where 0", "1");
 }
 
@@ -38,7 +41,7 @@ fn t2() {
     play.is("command 9 0 1 0 0", "17 -");
     play.is("command 2 5 1 0 5", &format!("5 {}", x("<134>")));
     play.is("command 9 0 1 0 0", "12 -");
-    play.is("numbers", "0 35 0 1 0 0 5 7 1 -");
+    play.is("numbers", "0 43 0 1 0 0 5 7 1 -");
 }
 
 #[test]
@@ -65,16 +68,22 @@ fn read_of(line: &str) -> String {
 
 #[test]
 fn t5_to_t8() {
-    assert_eq!(line_of(&x("<3>x")), read_of("11,0,0,-;x\n"));
-    assert_eq!(line_of(&x("<2047>x")), read_of("2047,0,0,-;x\n"));
-    assert_eq!(line_of(&x("<2048>x")), read_of("12,0,0,-;<2048>x\n"));
-    assert_eq!(line_of("-"), read_of("12,0,0,-;\n"));
-    assert_eq!(line_of("0a0a"), read_of("12,0,0,-;\\x0a\n"));
+    assert_eq!(line_of(&x("<3>x")), read_of("11,0,0,-,caller=0;x\n"));
+    assert_eq!(line_of(&x("<2047>x")), read_of("2047,0,0,-,caller=0;x\n"));
+    assert_eq!(
+        line_of(&x("<2048>x")),
+        read_of("12,0,0,-,caller=0;<2048>x\n")
+    );
+    assert_eq!(line_of("-"), read_of("12,0,0,-,caller=0;\n"));
+    assert_eq!(line_of("0a0a"), read_of("12,0,0,-,caller=0;\\x0a\n"));
 }
 
 #[test]
 fn t9() {
-    assert_eq!(line_of("7e7f5c"), read_of("12,0,0,-;~\\x7f\\x5c\n"));
+    assert_eq!(
+        line_of("7e7f5c"),
+        read_of("12,0,0,-,caller=0;~\\x7f\\x5c\n")
+    );
 }
 
 #[test]
@@ -82,26 +91,26 @@ fn t10() {
     let mut play = Play::new(&["log 1024 0", "reader"]);
     play.is("outside 999 61", "1 0");
     play.is("outside 1000 61", "1 0");
-    play.is("read 0 5000", &read_of("12,0,0,-;a\n"));
-    play.is("read 0 5000", &read_of("12,1,1,-;a\n"));
+    play.is("read 0 5000", &read_of("12,0,0,-,caller=0;a\n"));
+    play.is("read 0 5000", &read_of("12,1,1,-,caller=0;a\n"));
 }
 
 #[test]
 fn t11_and_t12() {
     let mut play = Play::new(&["log 1024 0", "reader"]);
-    for _ in 0..42 {
+    for _ in 0..32 {
         play.is("outside 0 -", "0 0");
     }
-    play.is("numbers", "0 1008 0 42 0 0 0 7 1 -");
+    play.is("numbers", "0 1024 0 32 0 0 0 7 1 -");
     play.is("outside 0 -", "0 1");
-    play.is("numbers", "24 1008 1 43 0 0 0 7 1 -");
+    play.is("numbers", "32 1024 1 33 0 0 0 7 1 -");
     play.is("read 0 5000", "-32 1 -");
     play.is("where 0", "1");
-    play.is("read 0 5000", &read_of("12,1,0,-;\n"));
+    play.is("read 0 5000", &read_of("12,1,0,-,caller=0;\n"));
 
-    play.is(&format!("outside 0 {}", many(b'p', 960)), "960 41");
-    // Started at 24, moved past 41 records of 24; one empty record and the new one are left.
-    play.is("numbers", "1008 1008 42 44 0 0 0 7 1 -");
+    play.is(&format!("outside 0 {}", many(b'p', 960)), "960 31");
+    // Started at 32, moved past 31 records of 32; one empty record and the new one are left.
+    play.is("numbers", "0 1024 32 34 0 0 0 7 1 -");
     play.is(&format!("outside 0 {}", many(b'p', 961)), "-22 0");
     play.is("check", "fine");
 }

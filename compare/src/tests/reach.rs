@@ -111,7 +111,7 @@ fn met(script: &[u8]) -> BTreeMap<String, u64> {
             (["command", kind @ ("3" | "4"), ..], Some(count @ 1..)) => {
                 cases.push(format!("{kind} begins {}", beginning(before, count)));
             }
-            (["command", "9", ..], Some(447_965)) => cases.push("9 at its most".into()),
+            (["command", "9", ..], Some(444_213)) => cases.push("9 at its most".into()),
             (["command", "9", ..], Some(967..)) => cases.push("9 over 966".into()),
             (["check"], _) => cases.extend(checked(log).map(|case| format!("{case}: {first}"))),
             (["poke", ..], _) if answer == "poked" => {

@@ -21,7 +21,7 @@ fn ebadfd_when_the_check_fails() {
         "number saved 0",
         "number saved 9",
         "poke 22 2b",
-        "number used 51",
+        "number used 67",
         "number start 1024",
     ] {
         let mut play = played();
@@ -100,7 +100,10 @@ fn eperm() {
 #[test]
 fn espipe() {
     let mut play = played();
-    play.is("read 0 5000", &format!("12 0 {}", x("12,0,0,-;ab\n")));
+    play.is(
+        "read 0 5000",
+        &format!("21 0 {}", x("12,0,0,-,caller=0;ab\n")),
+    );
     play.all_unmoved(
         &["seek 0 1 0", "seek 0 -1 2", "seek 0 1 1", "seek 0 2 9"],
         "-29",
@@ -164,7 +167,7 @@ fn einval_on_writes() {
     ] {
         play.all_unmoved(&[&format!("box 1 1 0 61 {}", x(bad))], "-22 0");
     }
-    play.is(&format!("outside 0 {}", many(b'p', 960)), "960 1");
+    play.is(&format!("outside 0 {}", many(b'p', 960)), "960 2");
 }
 
 /// `length` plain bytes from outside, but for a zero at this place.
@@ -206,11 +209,11 @@ fn einval_on_a_zero_from_outside() {
     for count in [960, 961] {
         play.all_unmoved(&[&format!("outside 0 {}", many(0, count))], "-22 0");
     }
-    // Two records of 26 bytes, as before; 960 bytes without a zero are still taken, 961 are not.
-    play.is("numbers", "0 52 0 2 0 0 0 7 1 -");
+    // Two records of 34 bytes, as before; 960 bytes without a zero are still taken, 961 are not.
+    play.is("numbers", "0 68 0 2 0 0 0 7 1 -");
     play.is("check", "fine");
     play.all_unmoved(&[&format!("outside 0 {}", many(b'p', 961))], "-22 0");
-    play.is(&format!("outside 0 {}", many(b'p', 960)), "960 1");
+    play.is(&format!("outside 0 {}", many(b'p', 960)), "960 2");
     for byte in 1..=255 {
         let mut play = Play::new(&["log 1024 0"]);
         play.is(&format!("outside 0 {byte:02x}"), "1 0");
@@ -220,8 +223,11 @@ fn einval_on_a_zero_from_outside() {
 #[test]
 fn einval_on_a_short_buffer() {
     let mut play = played();
-    play.all_unmoved(&["read 0 11", "read 0 0"], "-22 0 -");
-    play.is("read 0 12", &format!("12 0 {}", x("12,0,0,-;ab\n")));
+    play.all_unmoved(&["read 0 20", "read 0 0"], "-22 0 -");
+    play.is(
+        "read 0 21",
+        &format!("21 0 {}", x("12,0,0,-,caller=0;ab\n")),
+    );
 }
 
 #[test]
@@ -259,7 +265,7 @@ fn eoverflow() {
     play.is("outside 0 61", "1 0");
     play.is(
         "numbers",
-        "0 25 18446744073709551614 18446744073709551615 0 0 0 7 1 -",
+        "0 33 18446744073709551614 18446744073709551615 0 0 0 7 1 -",
     );
     play.all_unmoved(&["outside 0 61", "box 1 1 0 61 -"], "-75 0");
     // After -22.
@@ -270,13 +276,13 @@ fn eoverflow() {
     }
     play.all_unmoved(&["box 1 1 0 00 -"], "-75 0");
     play.is("read 0 5000", "-32 18446744073709551614 -");
-    let line = "12,18446744073709551614,0,-;a\n";
+    let line = "12,18446744073709551614,0,-,caller=0;a\n";
     play.is("read 0 5000", &format!("{} 0 {}", line.len(), x(line)));
     play.is("read 0 5000", "-11 0 -");
     play.is("command 2 9 1 0 9", &format!("6 {}", x("<12>a\n")));
     play.is(
         "numbers",
-        &format!("0 25 18446744073709551614 {TOP} 0 {TOP} 0 7 1 -"),
+        &format!("0 33 18446744073709551614 {TOP} 0 {TOP} 0 7 1 -"),
     );
     play.is("check", "fine");
 }
@@ -284,11 +290,11 @@ fn eoverflow() {
 #[test]
 fn epipe() {
     let mut play = played();
-    play.is(&format!("outside 0 {}", many(b'p', 960)), "960 1");
+    play.is(&format!("outside 0 {}", many(b'p', 960)), "960 2");
     let before = play.ask("numbers");
     // Before -22, also with no room at all.
-    play.is("read 0 0", "-32 1 -");
-    play.is("where 0", "1");
+    play.is("read 0 0", "-32 2 -");
+    play.is("where 0", "2");
     play.is("numbers", &before);
     play.is("read 0 0", "-22 0 -");
     // Before -11: an empty log that starts at 5.

@@ -14,22 +14,22 @@ fn played(records: &[&str]) -> Play {
 #[test]
 fn prefixes_from_outside() {
     let cases = [
-        ("<0>x", "8,0,0,-;x\n"),
-        ("<7>x", "15,0,0,-;x\n"),
-        ("<8>x", "8,0,0,-;x\n"),
-        ("<0007>x", "15,0,0,-;x\n"),
-        ("<00007>x", "12,0,0,-;<00007>x\n"),
-        ("<12345>x", "12,0,0,-;<12345>x\n"),
-        ("<>x", "12,0,0,-;<>x\n"),
-        ("<1", "12,0,0,-;<1\n"),
-        ("<", "12,0,0,-;<\n"),
-        ("<-1>x", "12,0,0,-;<-1>x\n"),
-        ("<1 >x", "12,0,0,-;<1 >x\n"),
-        ("<1><2>", "9,0,0,-;<2>\n"),
-        ("<134>\n", "134,0,0,-;\n"),
-        ("<134>\n\n", "134,0,0,-;\\x0a\n"),
-        ("x\r\n", "12,0,0,-;x\\x0d\n"),
-        ("\n", "12,0,0,-;\n"),
+        ("<0>x", "8,0,0,-,caller=0;x\n"),
+        ("<7>x", "15,0,0,-,caller=0;x\n"),
+        ("<8>x", "8,0,0,-,caller=0;x\n"),
+        ("<0007>x", "15,0,0,-,caller=0;x\n"),
+        ("<00007>x", "12,0,0,-,caller=0;<00007>x\n"),
+        ("<12345>x", "12,0,0,-,caller=0;<12345>x\n"),
+        ("<>x", "12,0,0,-,caller=0;<>x\n"),
+        ("<1", "12,0,0,-,caller=0;<1\n"),
+        ("<", "12,0,0,-,caller=0;<\n"),
+        ("<-1>x", "12,0,0,-,caller=0;<-1>x\n"),
+        ("<1 >x", "12,0,0,-,caller=0;<1 >x\n"),
+        ("<1><2>", "9,0,0,-,caller=0;<2>\n"),
+        ("<134>\n", "134,0,0,-,caller=0;\n"),
+        ("<134>\n\n", "134,0,0,-,caller=0;\\x0a\n"),
+        ("x\r\n", "12,0,0,-,caller=0;x\\x0d\n"),
+        ("\n", "12,0,0,-,caller=0;\n"),
     ];
     for (handed, line) in cases {
         let mut play = played(&[handed]);
@@ -44,16 +44,19 @@ fn records_from_the_box_are_taken_as_they_come() {
         &format!("box 0 3 1999 {} {}", x("x\n"), x("a=1\0b=\\")),
         "9 0",
     );
-    let line = "3,0,1,-;x\\x0a\n a=1\n b=\\x5c\n";
+    let line = "3,0,1,-,caller=0;x\\x0a\n a=1\n b=\\x5c\n";
     play.is("read 0 5000", &format!("{} 0 {}", line.len(), x(line)));
     play.is("command 2 50 1 0 50", &format!("9 {}", x("<3>x\n<3>\n")));
     play.is("box 255 7 0 - -", "0 0");
-    play.is("read 0 5000", &format!("12 0 {}", x("2047,1,0,-;\n")));
+    play.is(
+        "read 0 5000",
+        &format!("21 0 {}", x("2047,1,0,-,caller=0;\n")),
+    );
     for good in ["a=", "a==", "a=1\0b=2", " =\0 ="] {
         let count = good.len();
         play.is(&format!("box 1 1 0 - {}", x(good)), &format!("{count} 0"));
     }
-    play.is(&format!("box 1 1 0 {} 613d", many(b't', 958)), "960 5");
+    play.is(&format!("box 1 1 0 {} 613d", many(b't', 958)), "960 6");
 }
 
 #[test]
@@ -64,39 +67,58 @@ fn the_box_may_write_zeros() {
         &format!("box 1 4 0 {} {}", x("a\0b"), x("a=1\0b=2")),
         "10 0",
     );
-    // 25 and 34 bytes.
-    play.is("numbers", "0 59 0 2 0 0 0 7 1 -");
-    play.is("read 0 5000", &format!("14 0 {}", x("12,0,0,-;\\x00\n")));
-    let line = "12,1,0,-;a\\x00b\n a=1\n b=2\n";
-    play.is("read 0 5000", &format!("26 0 {}", x(line)));
+    // 33 and 42 bytes.
+    play.is("numbers", "0 75 0 2 0 0 0 7 1 -");
+    play.is(
+        "read 0 5000",
+        &format!("23 0 {}", x("12,0,0,-,caller=0;\\x00\n")),
+    );
+    let line = "12,1,0,-,caller=0;a\\x00b\n a=1\n b=2\n";
+    play.is("read 0 5000", &format!("35 0 {}", x(line)));
     let forms = x("<12>\0\n<12>a\0b\n");
     play.is("command 3 99 1 0 99", &format!("14 {forms}"));
-    play.is(&format!("box 1 4 0 {} -", many(0, 960)), "960 1");
-    play.is("numbers", "25 1018 1 3 0 0 0 7 1 -");
+    play.is(&format!("box 1 4 0 {} -", many(0, 960)), "960 2");
+    play.is("numbers", "75 992 2 3 0 0 0 7 1 -");
     play.is("check", "fine");
 }
 
 #[test]
 fn a_record_runs_past_the_end_and_goes_on_at_the_start() {
     let mut play = Play::new(&["log 1024 165", "reader"]);
-    play.is(&format!("outside 0 {}", many(b'a', 960)), "960 0");
-    play.is("numbers", "0 984 0 1 0 0 0 7 1 -");
-    // 31 bytes at 984; there is room.
+    let write = format!("outside 0 {} 4294967295", many(b'a', 944));
+    play.is(&write, "944 0");
+    play.is("numbers", "0 976 0 1 0 0 0 7 1 -");
+    // 39 bytes at 976; there is room.
     play.is(&format!("outside 0 {}", x("bcdefgh")), "7 0");
     play.is("numbers", "0 1015 0 2 0 0 0 7 1 -");
     play.is(&format!("outside 3 {}", x("<134>ij")), "7 1");
-    play.is("numbers", "984 57 1 3 0 0 0 7 1 -");
+    play.is("numbers", "976 73 1 3 0 0 0 7 1 -");
     play.is("peek 1015 9", "030000000000000002");
     play.is(
-        "peek 0 17",
-        concat!("00000000000000", "0200", "0000", "8600", "2d00", "696a"),
+        "peek 0 25",
+        concat!(
+            "00000000000000",
+            "0200",
+            "0000",
+            "8600",
+            "2d00",
+            "00000000",
+            "00000000",
+            "696a"
+        ),
     );
-    // What is left of the dropped record's heading stays.
-    play.is("peek 17 3", "030000");
+    // What is left of the dropped record's heading stays: its caller.
+    play.is("peek 25 4", "ffffff00");
     play.is("check", "fine");
     play.is("read 0 5000", "-32 1 -");
-    play.is("read 0 5000", &format!("17 0 {}", x("12,1,0,-;bcdefgh\n")));
-    play.is("read 0 5000", &format!("13 0 {}", x("134,2,0,-;ij\n")));
+    play.is(
+        "read 0 5000",
+        &format!("26 0 {}", x("12,1,0,-,caller=0;bcdefgh\n")),
+    );
+    play.is(
+        "read 0 5000",
+        &format!("22 0 {}", x("134,2,0,-,caller=0;ij\n")),
+    );
 }
 
 #[test]
@@ -104,9 +126,12 @@ fn time_may_go_back() {
     let mut play = Play::new(&["log 1024 0", "reader"]);
     play.is("outside 18446744073709551615 61", "1 0");
     play.is("outside 0 62", "1 0");
-    let first = "12,0,18446744073709551,-;a\n";
+    let first = "12,0,18446744073709551,-,caller=0;a\n";
     play.is("read 0 5000", &format!("{} 0 {}", first.len(), x(first)));
-    play.is("read 0 5000", &format!("11 0 {}", x("12,1,0,-;b\n")));
+    play.is(
+        "read 0 5000",
+        &format!("20 0 {}", x("12,1,0,-,caller=0;b\n")),
+    );
 }
 
 #[test]
@@ -115,15 +140,18 @@ fn the_longest_line() {
     play.is("number first 18446744073709551614", "set");
     play.is("number next 18446744073709551614", "set");
     play.is("at 0 18446744073709551614", "set");
-    let write = format!("box 255 7 18446744073709551615 {} -", many(255, 960));
+    let write = format!(
+        "box 255 7 18446744073709551615 {} - 0 4294967295",
+        many(255, 960)
+    );
     play.is(&write, "960 0");
-    play.is("read 0 3886", "-22 0 -");
+    play.is("read 0 3904", "-22 0 -");
     let line = format!(
-        "2047,18446744073709551614,18446744073709551,-;{}\n",
+        "2047,18446744073709551614,18446744073709551,-,caller=4294967295;{}\n",
         "\\xff".repeat(960)
     );
-    assert_eq!(line.len(), 3_887);
-    play.is("read 0 3887", &format!("3887 0 {}", x(&line)));
+    assert_eq!(line.len(), 3_905);
+    play.is("read 0 3905", &format!("3905 0 {}", x(&line)));
 }
 
 #[test]
@@ -148,7 +176,7 @@ fn the_clear_mark_may_point_at_dropped_records() {
     play.is("command 4 0 1 0 0", "0 -");
     play.is(&format!("outside 0 {}", many(b'b', 17)), "17 0");
     play.is(&format!("outside 0 {}", many(b'p', 960)), "960 2");
-    play.is("numbers", "66 984 2 3 1 0 0 7 1 -");
+    play.is("numbers", "82 992 2 3 1 0 0 7 1 -");
     play.is("seek 0 0 3", "0");
     play.is("where 0", "1");
     play.is("read 0 5000", "-32 1 -");
@@ -161,16 +189,19 @@ fn command_2_cuts_anywhere() {
     let mut play = played(&["ab", "cd"]);
     // "<12>ab\n<12>cd\n"
     play.is("command 2 6 1 0 6", &format!("6 {}", x("<12>ab")));
-    play.is("numbers", "0 52 0 2 0 0 6 7 1 -");
+    play.is("numbers", "0 68 0 2 0 0 6 7 1 -");
     play.is("command 2 1 1 0 1", "1 0a");
-    play.is("numbers", "0 52 0 2 0 1 0 7 1 -");
+    play.is("numbers", "0 68 0 2 0 1 0 7 1 -");
     play.is("command 2 0 1 0 0", "0 -");
     play.is("command 9 0 1 0 0", "7 -");
     play.is("command 2 100 1 0 100", &format!("7 {}", x("<12>cd\n")));
-    play.is("numbers", "0 52 0 2 0 2 0 7 1 -");
+    play.is("numbers", "0 68 0 2 0 2 0 7 1 -");
     play.is("command 9 0 1 0 0", "0 -");
     // Readers keep their records.
-    play.is("read 0 5000", &format!("12 0 {}", x("12,0,0,-;ab\n")));
+    play.is(
+        "read 0 5000",
+        &format!("21 0 {}", x("12,0,0,-,caller=0;ab\n")),
+    );
 }
 
 #[test]
@@ -178,12 +209,12 @@ fn command_2_goes_on_from_the_oldest_record() {
     let mut play = played(&["ab", "cd"]);
     play.is("command 2 6 1 0 6", &format!("6 {}", x("<12>ab")));
     play.is(&format!("outside 0 {}", many(b'p', 950)), "950 1");
-    play.is("numbers", "26 1000 1 3 0 0 6 7 1 -");
+    play.is("numbers", "34 1016 1 3 0 0 6 7 1 -");
     play.is("command 9 0 1 0 0", "962 -");
     play.is("command 2 0 1 0 9", "0 -");
-    play.is("numbers", "26 1000 1 3 0 0 6 7 1 -");
+    play.is("numbers", "34 1016 1 3 0 0 6 7 1 -");
     play.is("command 2 3 1 0 9", &format!("3 {}", x("<12")));
-    play.is("numbers", "26 1000 1 3 0 1 3 7 1 -");
+    play.is("numbers", "34 1016 1 3 0 1 3 7 1 -");
 }
 
 #[test]
@@ -193,9 +224,9 @@ fn commands_3_and_4_give_the_last_bytes() {
     play.is("command 3 14 0 0 14", &format!("14 {}", x(all)));
     play.is("command 3 13 0 0 99", &format!("13 {}", x(&all[1..])));
     play.is("command 3 0 0 0 0", "0 -");
-    play.is("numbers", "0 52 0 2 0 0 0 7 1 -");
+    play.is("numbers", "0 68 0 2 0 0 0 7 1 -");
     play.is("command 4 3 1 1 3", &format!("3 {}", x("cd\n")));
-    play.is("numbers", "0 52 0 2 2 0 0 7 1 -");
+    play.is("numbers", "0 68 0 2 2 0 0 7 1 -");
     play.is("command 4 9 1 0 9", "0 -");
     play.is("command 9 0 1 0 0", "14 -");
     play.is("outside 0 65", "1 0");
@@ -256,12 +287,12 @@ fn other_commands() {
 }
 
 #[test]
-fn no_write_drops_more_than_41() {
-    let mut play = Play::new(&["log 1032 0"]);
-    for _ in 0..43 {
+fn no_write_drops_more_than_31() {
+    let mut play = Play::new(&["log 1056 0"]);
+    for _ in 0..33 {
         play.is("outside 0 -", "0 0");
     }
-    play.is("numbers", "0 1032 0 43 0 0 0 7 1 -");
-    play.is(&format!("outside 0 {}", many(b'p', 960)), "960 41");
-    play.is("numbers", "984 1032 41 44 0 0 0 7 1 -");
+    play.is("numbers", "0 1056 0 33 0 0 0 7 1 -");
+    play.is(&format!("outside 0 {}", many(b'p', 960)), "960 31");
+    play.is("numbers", "992 1056 31 34 0 0 0 7 1 -");
 }

@@ -133,6 +133,7 @@ fn trail_runs() {
         "next end",
         "next stop number",
         "next stop save",
+        "next stop edition",
         "next stop count",
         "next stop check",
         "next stop record",
@@ -186,7 +187,7 @@ fn all_met(met: &BTreeSet<String>, wanted: &[&str]) {
 /// Ordinary scripts meet the console's calls with every answer, and levels by hand of every kind.
 #[test]
 fn console_calls_in_plain_scripts() {
-    let met = console_calls(Kind::Plain, 12);
+    let met = console_calls(Kind::Plain, 40);
     for kind in ["6", "7", "8 0", "8 9"] {
         let done = if kind.len() == 1 { "0 -" } else { "-22 -" };
         for answer in [done, "-1 -", "-77 -"] {
