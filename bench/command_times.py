@@ -3,12 +3,13 @@
 
 command_times.py PROVED PLAIN [EARLIER]: the programs take six numbers, the bytes of text in each record, after how many of them each is a newline (0: none is),
 the log's capacity, the command's type, its len, and how often it is asked. With an earlier build of the proved program its time stands beside where no text has
-a newline: only there it copies the same bytes."""
+a newline: only there it copies the same bytes. It must have headings of the same size, or its log holds other records."""
 import sys
 
 from timing import RUNS, each, run
 
 CAPACITY = 65536
+HEADING = 32
 ALL = 460000
 COPIED = [(0, 0), (40, 0), (960, 0), (40, 10), (960, 40), (960, 8), (960, 1)]
 COUNTED = [(0, 0), (40, 0), (960, 0), (40, 10), (960, 40)]
@@ -46,7 +47,7 @@ def main():
         answer = int(wrote[0].split()[0]) // 3
         cost = each(here, given)
         ratios = [f"{cost[0] / other:.2f}" for other in cost[1:]]
-        cells = [name, f"{text} bytes", str(every) if every else "none", f"{CAPACITY // (24 + text):,}", f"{answer:,}"]
+        cells = [name, f"{text} bytes", str(every) if every else "none", f"{CAPACITY // (HEADING + text):,}", f"{answer:,}"]
         cells += [duration(cost[0]), duration(cost[1]), ratios[0]]
         row(cells + ([duration(cost[2]), ratios[1]] if len(here) == 3 else [""] * (len(columns) - len(cells))))
 

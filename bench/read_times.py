@@ -6,7 +6,7 @@ import sys
 
 from timing import RUNS, each, run
 
-CASES = [(0, 24), (40, 64), (960, 984)]
+CASES = [(0, 32), (40, 72), (960, 992)]
 
 
 def main():

@@ -4,7 +4,14 @@ use slices::Placed;
 use std::num::wrapping_add_usize;
 
 // Puts a header at a place, and answers the place behind it.
-pub fn header(prefix: u64, sequence: u64, time: u64, out: &mut [u8], at: usize) -> usize {
+pub fn header(
+    prefix: u64,
+    sequence: u64,
+    time: u64,
+    caller: u64,
+    out: &mut [u8],
+    at: usize,
+) -> usize {
     if out.len() < at {
         return at;
     }
@@ -16,6 +23,8 @@ pub fn header(prefix: u64, sequence: u64, time: u64, out: &mut [u8], at: usize) 
         prefix: (prefix % 2048) as u16,
         flag: Heading::PLAIN,
         zero: 0,
+        caller: (caller % 4294967296) as u32,
+        reserved: 0,
     };
     let none = b"";
     let room = &mut out[at..];

@@ -1,8 +1,8 @@
 // Numbers, or headers of lines, printed into one buffer over and over; what was printed last is written at the end. bench/ has a plain program that does
 // the same, and times both.
 //
-// Standard input is numbers, each ended by a newline: what is printed (1: numbers, 3: headers of lines), how often, and then the numbers themselves. Those of
-// headers go by threes: prefix, sequence number, time in nanoseconds.
+// Standard input is numbers, each ended by a newline: what is printed (1: numbers, 4: headers of lines), how often, and then the numbers themselves. Those of
+// headers go by fours: prefix, sequence number, time in nanoseconds, caller.
 mod header;
 
 use libc::STDIN_FILENO;
@@ -90,8 +90,8 @@ fn understand(what: u64, times: u64, numbers: usize) -> Asked {
     }
     match what {
         1 => Asked::Headers(false),
-        3 => {
-            if numbers % 3 == 0 {
+        4 => {
+            if numbers % 4 == 0 {
                 Asked::Headers(true)
             } else {
                 Asked::Nothing
@@ -122,9 +122,16 @@ fn print_numbers(values: &[u64], out: &mut [u8]) -> usize {
 fn print_headers(values: &[u64], out: &mut [u8]) -> usize {
     let mut at = 0;
     let mut i = 0;
-    while i + 2 < values.len() {
-        at = header::header(values[i], values[i + 1], values[i + 2], out, at);
-        i += 3;
+    while i + 3 < values.len() {
+        at = header::header(
+            values[i],
+            values[i + 1],
+            values[i + 2],
+            values[i + 3],
+            out,
+            at,
+        );
+        i += 4;
     }
     at
 }
@@ -151,7 +158,7 @@ fn print_often(headers: bool, times: u64, values: &[u64], out: &mut [u8]) -> usi
 fn refuse() {
     io::write_all(
         STDOUT_FILENO,
-        b"wanted: plain decimal numbers, each ended by a newline, 8192 at most: 1 or 3, how often (100000000 at most), those to print, by threes behind a 3\n",
+        b"wanted: plain decimal numbers, each ended by a newline, 8192 at most: 1 or 4, how often (100000000 at most), those to print, by fours behind a 4\n",
     );
 }
 

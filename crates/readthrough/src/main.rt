@@ -14,7 +14,7 @@ use slices::Found;
 use tally::Tally;
 
 // One record more than any log has room for.
-const RECORDS: u64 = 2731;
+const RECORDS: u64 = 2049;
 
 const TIMES_MOST: u64 = 1000000;
 
@@ -22,6 +22,8 @@ const TIMES_MOST: u64 = 1000000;
 const FACILITY: u64 = 16;
 
 const LEVEL: u64 = 6;
+
+const CALLER: u32 = 4711;
 
 // From one record to the next, in nanoseconds.
 const APART: u64 = 1000999;
@@ -67,7 +69,17 @@ fn fill(buffer: &mut [u8], text: &[u8]) -> Log {
     let mut n: u64 = 0;
     while n < RECORDS {
         let none = slices::front(text, 0);
-        let written = writes::write_box(log, buffer, FACILITY, LEVEL, n * APART, text, none, false);
+        let written = writes::write_box(
+            log,
+            buffer,
+            FACILITY,
+            LEVEL,
+            n * APART,
+            text,
+            none,
+            false,
+            CALLER,
+        );
         log = written.log;
         if 0 < written.dropped {
             return log;

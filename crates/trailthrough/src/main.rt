@@ -20,7 +20,7 @@ use tally::Sum;
 use tally::Tally;
 
 // One record more than any log has room for.
-const RECORDS: u64 = 2731;
+const RECORDS: u64 = 2049;
 
 const TIMES_MOST: u64 = 4294967295;
 
@@ -28,6 +28,8 @@ const TIMES_MOST: u64 = 4294967295;
 const FACILITY: u64 = 16;
 
 const LEVEL: u64 = 6;
+
+const CALLER: u32 = 4711;
 
 // From one record to the next, in nanoseconds.
 const APART: u64 = 1000999;
@@ -100,7 +102,17 @@ fn fill(buffer: &mut [u8], text: &[u8]) -> Log {
     let mut n: u64 = 0;
     while n < RECORDS {
         let none = slices::front(text, 0);
-        let written = writes::write_box(log, buffer, FACILITY, LEVEL, n * APART, text, none, false);
+        let written = writes::write_box(
+            log,
+            buffer,
+            FACILITY,
+            LEVEL,
+            n * APART,
+            text,
+            none,
+            false,
+            CALLER,
+        );
         log = written.log;
         if 0 < written.dropped {
             return log;
@@ -147,7 +159,7 @@ fn read_through(file: &[u8], result: &mut [u8], before: Tally) -> Tally {
     while n < RECORDS {
         let handed = savedtrail::next(reader, file, result);
         let told = handed.told;
-        let Told::Given(h) = told else {
+        let Told::Given(h, _) = told else {
             return tally;
         };
         tally = tally.with(h, result);
@@ -175,7 +187,7 @@ fn sum_through(file: &[u8], result: &mut [u8]) -> Sum {
     while n < RECORDS {
         let handed = savedtrail::next(reader, file, result);
         let told = handed.told;
-        let Told::Given(h) = told else {
+        let Told::Given(h, _) = told else {
             return sum;
         };
         sum = sum.record(h, result);

@@ -16,6 +16,9 @@ const INPUT: usize = 1024;
 
 const TIMES_MOST: u64 = 100000000;
 
+// Who writes.
+const CALLER: u32 = 4711;
+
 // What is asked for: the capacity, and how often.
 enum Asked {
     Writes(usize, u64),
@@ -71,7 +74,7 @@ fn write_often(buffer: &mut [u8], message: &[u8], times: u64) -> Told {
     let mut log = Log::new();
     let mut n: u64 = 0;
     while n < times {
-        let written = writes::write_outside(log, buffer, n, message);
+        let written = writes::write_outside(log, buffer, n, message, CALLER);
         let answer = written.answer;
         answered = wrapping_add_u64(answered, bytes_of(answer));
         dropped = wrapping_add_u64(dropped, written.dropped);

@@ -12,11 +12,13 @@ use std::io::Read;
 use syslog::{command, Asked};
 
 const LENT: usize = 460_000;
+/// Who writes every record.
+const CALLER: u32 = 4_711;
 
 /// Records of this text, until the oldest is dropped for one.
 fn fill(log: &mut Log, text: &[u8]) {
     for n in 0.. {
-        let (_, dropped) = log.write(16, 6, n * 1_000_999, text, &[], false).expect("a write by the rules");
+        let (_, dropped) = log.write(16, 6, n * 1_000_999, text, &[], false, CALLER).expect("a write by the rules");
         if dropped > 0 {
             return;
         }

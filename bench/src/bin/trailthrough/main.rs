@@ -12,6 +12,8 @@ use std::io::Read;
 use trail::{Ending, Reader, Stop};
 
 const RESULT: usize = 960;
+/// Who writes every record.
+const CALLER: u32 = 4_711;
 
 /// What is told of the reads that are timed: records, bytes, and the sum of the times and of each record's last byte.
 #[derive(Default)]
@@ -55,7 +57,7 @@ impl Sum {
 /// Records of this text, until the oldest is dropped for one.
 fn fill(log: &mut Log, text: &[u8]) {
     for n in 0.. {
-        let (_, dropped) = log.write(16, 6, n * 1_000_999, text, &[], false).expect("a write by the rules");
+        let (_, dropped) = log.write(16, 6, n * 1_000_999, text, &[], false, CALLER).expect("a write by the rules");
         if dropped > 0 {
             return;
         }
@@ -67,7 +69,7 @@ fn read_through(file: &[u8], result: &mut [u8], mut take: impl FnMut(&Heading, &
     let mut reader = Reader::fresh(file);
     loop {
         match reader.next(result) {
-            Ok(heading) => take(&heading, &result[..heading.text + heading.dictionary]),
+            Ok((heading, _)) => take(&heading, &result[..heading.text + heading.dictionary]),
             Err(Stop::Over(Ending::Ended)) => return,
             Err(stop) => panic!("{stop:?}"),
         }

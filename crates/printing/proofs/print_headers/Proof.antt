@@ -42,6 +42,15 @@ mul-header-3 c = search needs
 shared-slice-read-header-3 : tie.Need-shared-slice-read-header-3 Inv-loop μ-loop
 shared-slice-read-header-3 c = search needs
 
+add-header-3 : tie.Need-add-header-3 Inv-loop μ-loop
+add-header-3 c = search needs
+
+mul-header-4 : tie.Need-mul-header-4 Inv-loop μ-loop
+mul-header-4 c = search needs
+
+shared-slice-read-header-4 : tie.Need-shared-slice-read-header-4 Inv-loop μ-loop
+shared-slice-read-header-4 c = search needs
+
 header-requires : tie.Need-header-requires Inv-loop μ-loop
 header-requires c κs = search needs
 
@@ -76,6 +85,9 @@ print-headers-spec =
     add-header-2
     mul-header-3
     shared-slice-read-header-3
+    add-header-3
+    mul-header-4
+    shared-slice-read-header-4
     header-requires
     add-i
     loop-less
