@@ -11,41 +11,37 @@ room=$(mktemp -d)
 trap 'rm -rf "$room"' EXIT
 failed=0
 
-# lines MARK FILE: what stands behind this mark, with {61*3} written out as 616161, and behind '>*3' or '<*3' three times
+# lines MARK FILE: what stands behind this mark, with {61*3} written out as 616161
 lines() {
-    awk -v mark="$1" '
+    awk -v mark="$1 " '
         function often(bytes, count, half) {
             if (count == 0) return ""
             half = often(bytes, int(count / 2))
             return half half (count % 2 ? bytes : "")
         }
-        match($0, "^" mark "([*][0-9]+)? ") {
-            line = substr($0, RLENGTH + 1)
-            times = RLENGTH == 2 ? 1 : substr($0, 3, RLENGTH - 3)
+        index($0, mark) == 1 {
+            line = substr($0, 3)
             while (match(line, /[{][0-9a-f]+[*][0-9]+[}]/)) {
                 split(substr(line, RSTART + 1, RLENGTH - 2), of, "*")
                 line = substr(line, 1, RSTART - 1) often(of[1], of[2] + 0) substr(line, RSTART + RLENGTH)
             }
-            for (; times > 0; times--) print line
+            print line
         }' "$2"
 }
 
 # items FILE: for each call its item, the first line of the comment above it
 items() {
-    awk '
-        /^# / && !above { item = substr($0, 3) }
-        { above = /^# / }
-        match($0, /^>([*][0-9]+)? /) { for (times = RLENGTH == 2 ? 1 : substr($0, 3, RLENGTH - 3); times > 0; times--) print item }' "$1"
+    awk '/^# / && !above { item = substr($0, 3) } { above = /^# / } /^> / { print item }' "$1"
 }
 
-# paired FILE: there are calls, each with its answer right behind it and as often, and nothing else but comments and empty lines
+# paired FILE: there are calls, each with its answer right behind it, and nothing else but comments and empty lines
 paired() {
     awk '
-        !/^$/ && !/^# / && !/^[<>]([*][0-9]+)? / { bad = 1 }
-        /^</ && asked != substr($1, 2) "." { bad = 1 }
-        !/^</ && asked != "" { bad = 1 }
-        { asked = /^>/ ? substr($1, 2) "." : ""; calls += /^>/ }
-        END { exit bad || asked != "" || !calls }' "$1"
+        !/^$/ && !/^# / && !/^> / && !/^< / { bad = 1 }
+        /^< / && !asked { bad = 1 }
+        !/^< / && asked { bad = 1 }
+        { asked = /^> /; calls += asked }
+        END { exit bad || asked || !calls }' "$1"
 }
 
 # held FILE NAME COMMAND..: the command answers the script, and its answers have to be the expected ones

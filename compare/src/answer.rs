@@ -2,7 +2,7 @@
 
 use crate::board::{Board, BOARD, FIRST_CHANNEL, SLOTS};
 use crate::joiner::{Given, Joiner};
-use crate::log::{to_console, Log, Misfit, Stamp, MOST_CAPACITY};
+use crate::log::{to_console, Log, Misfit, Stamp};
 use crate::message::{hex_digit, read_line, BLOCK};
 use crate::record::BULK;
 use crate::trail::{save, Last, Next, Reason, Trail, BLOCK as SAVED};
@@ -12,45 +12,13 @@ use std::io::{self, BufRead, Write};
 pub const LINE: usize = 40_000;
 /// Most readers at once.
 pub const READERS: usize = 16;
-/// Most bytes lent to a command, and to a reader of the log or of a trail.
-const COMMAND: u64 = 300_000;
-const READ: u64 = 5_000;
+/// Most bytes of a file, and of what is lent to a save.
+const FILE: u64 = 90_000;
 /// Lent buffers are filled with this before each call.
 const LENT: u8 = 165;
 
-/// How large things may be.
-#[derive(Clone, Copy)]
-pub struct Limits {
-    /// A log's largest capacity.
-    pub capacity: usize,
-    /// Most bytes that a script may lend to a log, and have in a file or lend to a save.
-    pub log: u64,
-    pub file: u64,
-}
-
-impl Limits {
-    pub const NOW: Limits = Limits {
-        capacity: MOST_CAPACITY,
-        log: 1_100_000,
-        file: 1_200_000,
-    };
-    /// What they were before ticket 8. Scripts of the older kinds are written for these.
-    pub const BEFORE: Limits = Limits {
-        capacity: 65_536,
-        log: 70_000,
-        file: 90_000,
-    };
-}
-
-impl Default for Limits {
-    fn default() -> Limits {
-        Limits::NOW
-    }
-}
-
 #[derive(Default)]
 pub struct Machine {
-    pub limits: Limits,
     pub log: Option<Log>,
     pub readers: Vec<u64>,
     pub board: Option<Board>,
@@ -109,9 +77,9 @@ impl Machine {
     fn call(&mut self, words: &[&str]) -> Option<String> {
         match *words {
             ["log", capacity, fill] => {
-                let capacity = num_to(capacity, self.limits.log)? as usize;
+                let capacity = num_to(capacity, 70_000)? as usize;
                 let fill = num_to(fill, 255)? as u8;
-                self.log = Some(Log::fresh(vec![fill; capacity], self.limits.capacity));
+                self.log = Some(Log::fresh(vec![fill; capacity]));
                 self.readers.clear();
                 Some("log".into())
             }
@@ -189,7 +157,7 @@ impl Machine {
             }
             ["where", reader] => Some(self.reader(reader)?.to_string()),
             ["read", reader, length] => {
-                let length = num_to(length, READ)? as usize;
+                let length = num_to(length, 5_000)? as usize;
                 let mut number = *self.reader(reader)?;
                 let log = self.log.as_mut()?;
                 let before = log.bytes().to_vec();
@@ -212,7 +180,7 @@ impl Machine {
                 let (kind, len) = (int(kind)?, int(len)?);
                 let privilege = num_to(privilege, 1)? == 1;
                 let restriction = num_to(restriction, 1)? == 1;
-                let mut lent = vec![LENT; num_to(lent, COMMAND)? as usize];
+                let mut lent = vec![LENT; num_to(lent, 300_000)? as usize];
                 let log = self.log.as_mut()?;
                 let before = log.bytes().to_vec();
                 let answer = log.command(kind, len, privilege, restriction, &mut lent);
@@ -279,7 +247,7 @@ impl Machine {
             ["line", message] => Some(line(&unhex(message)?)),
             ["save", number, length] => {
                 let number = num_to(number, u32::MAX.into())? as u32;
-                let mut lent = vec![LENT; num_to(length, self.limits.file)? as usize];
+                let mut lent = vec![LENT; num_to(length, FILE)? as usize];
                 let log = self.log.as_mut()?;
                 let before = log.bytes().to_vec();
                 let answer = save(log, number, &mut lent);
@@ -292,7 +260,7 @@ impl Machine {
                 Some(format!("{answer} {bytes}{}", mark(changed)))
             }
             ["disk", length, fill] => {
-                let length = num_to(length, self.limits.file)? as usize;
+                let length = num_to(length, FILE)? as usize;
                 let fill = num_to(fill, 255)? as u8;
                 self.file = Some(vec![fill; length]);
                 self.trail = None;
@@ -323,7 +291,7 @@ impl Machine {
                 Some("trail".into())
             }
             ["next", length] => {
-                let mut result = vec![LENT; num_to(length, READ)? as usize];
+                let mut result = vec![LENT; num_to(length, 5_000)? as usize];
                 let trail = self.trail.as_mut()?;
                 Some(next(trail, self.file.as_ref()?, &mut result))
             }

@@ -17,7 +17,7 @@ use std::io::{self, BufWriter, ErrorKind, Write};
 use std::process::ExitCode;
 
 const USAGE: &str = "usage: compare answer
-       compare script SEED N [wide|trail|editions|console|lines|joiner|large]
+       compare script SEED N [wide|trail|editions|console|lines|joiner]
        compare script all console|levels|bytes|pieces|editions";
 
 fn main() -> ExitCode {
@@ -40,7 +40,6 @@ fn main() -> ExitCode {
         ["script", seed, lines, "console"] => write_script(seed, lines, Kind::Console, &mut output),
         ["script", seed, lines, "lines"] => write_script(seed, lines, Kind::Lines, &mut output),
         ["script", seed, lines, "joiner"] => write_script(seed, lines, Kind::Joiner, &mut output),
-        ["script", seed, lines, "large"] => write_script(seed, lines, Kind::Large, &mut output),
         _ => Err(io::Error::new(ErrorKind::InvalidInput, USAGE)),
     };
     match done {

@@ -281,7 +281,7 @@ impl Script<'_> {
         }
     }
 
-    pub(super) fn any_reader(&mut self) -> usize {
+    fn any_reader(&mut self) -> usize {
         let readers = self.machine.readers.len() as u64;
         if self.random.chance(2) {
             return readers as usize;

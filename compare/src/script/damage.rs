@@ -137,18 +137,13 @@ impl Script<'_> {
             _ => self.random.below(held.len() as u64) as usize,
         };
         let place = start + held.iter().take(index).map(Record::cost).sum::<usize>();
-        let (at, bytes) = self.record_change(&held[index]);
-        self.poke_ring(place + at, &bytes, repairs);
-    }
-
-    /// Other bytes for a held record, and where in it they go.
-    pub(super) fn record_change(&mut self, record: &Record) -> (usize, Vec<u8>) {
+        let record = &held[index];
         let (text, dictionary) = (record.text.len(), record.dictionary.len());
         let kind = match dictionary {
             0 => self.random.below(13),
             _ => self.random.below(16),
         };
-        match kind {
+        let (at, bytes): (usize, Vec<u8>) = match kind {
             0 => {
                 let number = match self.random.below(3) {
                     0 => self
@@ -226,7 +221,8 @@ impl Script<'_> {
                 let byte = self.random.pick(&[0, 0, b'=', b'=', b'a', 255]);
                 (HEADING + text + at, vec![byte])
             }
-        }
+        };
+        self.poke_ring(place + at, &bytes, repairs);
     }
 
     /// One of the two flags that a record has.

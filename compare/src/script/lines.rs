@@ -194,7 +194,7 @@ impl Script<'_> {
         self.say("command 9 0 1 0 0");
     }
 
-    pub(super) fn say_place(&mut self, position: u64, offset: u64) {
+    fn say_place(&mut self, position: u64, offset: u64) {
         self.say(format!("number position {position}"));
         self.say(format!("number offset {offset}"));
     }

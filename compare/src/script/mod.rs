@@ -7,16 +7,14 @@ mod console;
 mod damage;
 mod editions;
 mod joiner;
-mod large;
 mod lines;
 mod messages;
 mod trail;
 
-use crate::answer::{hex, Limits, Machine};
+use crate::answer::{hex, Machine};
 use crate::log::{Log, Numbers};
 use crate::random::Random;
 use crate::record::Record;
-use large::Filling;
 use std::io::{self, Write};
 
 pub use console::{write_all_levels, write_all_runs};
@@ -41,29 +39,13 @@ pub enum Kind {
     Lines,
     /// Pieces of texts, and the joiner that puts them together.
     Joiner,
-    /// Logs of large capacities, laid by hand, and saves of them.
-    Large,
-}
-
-impl Kind {
-    /// The limits that its scripts are written for. Those of the older kinds stay what they were
-    /// for each seed, so a log that is in range since is one that all calls refuse to them.
-    fn limits(self) -> Limits {
-        match self {
-            Kind::Large => Limits::NOW,
-            _ => Limits::BEFORE,
-        }
-    }
 }
 
 /// Writes `lines` lines.
 pub fn write_script(seed: u64, lines: u64, kind: Kind, output: &mut dyn Write) -> io::Result<()> {
     let mut script = Script {
         random: Random::new(seed),
-        machine: Machine {
-            limits: kind.limits(),
-            ..Machine::default()
-        },
+        machine: Machine::default(),
         output,
         failure: None,
         left: lines,
@@ -73,7 +55,6 @@ pub fn write_script(seed: u64, lines: u64, kind: Kind, output: &mut dyn Write) -
         style: Style::Mixed,
         pool: Vec::new(),
         main_channel: 16,
-        fillings: Vec::new(),
     };
     script.opening(kind);
     while script.left > 0 {
@@ -83,7 +64,6 @@ pub fn write_script(seed: u64, lines: u64, kind: Kind, output: &mut dyn Write) -
             Kind::Console => script.console_chapter(),
             Kind::Lines => script.lines_chapter(),
             Kind::Joiner => script.joiner_chapter(),
-            Kind::Large => script.large_chapter(),
             _ => script.chapter(),
         }
         if let Some(error) = script.failure.take() {
@@ -116,8 +96,6 @@ struct Script<'a> {
     /// Records to deliver, and the channel that most of them have.
     pool: Vec<Record>,
     main_channel: u64,
-    /// What the next large logs are filled with.
-    fillings: Vec<Filling>,
 }
 
 impl Script<'_> {
@@ -172,10 +150,7 @@ impl Script<'_> {
             }
             return;
         }
-        if matches!(
-            kind,
-            Kind::Console | Kind::Lines | Kind::Editions | Kind::Large
-        ) {
+        if matches!(kind, Kind::Console | Kind::Lines | Kind::Editions) {
             return;
         }
         if kind == Kind::Joiner {

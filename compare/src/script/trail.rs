@@ -10,7 +10,7 @@ use crate::trail::{crc, heading_of, image, BLOCK, CHECKED, EDITION, FRONT, OLD_E
 
 /// Where a block's number, save number, edition, count and check lie, and how many bytes each
 /// has, in the order they are judged.
-pub(super) const FIELDS: [(usize, usize); 5] = [(0, 4), (8, 4), (6, 2), (4, 2), (CHECKED, 4)];
+const FIELDS: [(usize, usize); 5] = [(0, 4), (8, 4), (6, 2), (4, 2), (CHECKED, 4)];
 const CHECK: usize = 4;
 /// Most bytes of one patch: a line holds no more.
 const PIECE: usize = 19_000;
@@ -40,7 +40,7 @@ impl Laid {
         }
     }
 
-    pub(super) fn cost(&self, record: &Record) -> usize {
+    fn cost(&self, record: &Record) -> usize {
         self.heading + record.text.len() + record.dictionary.len()
     }
 }
@@ -399,7 +399,7 @@ impl Script<'_> {
 
     /// Puts bytes into the payload, running on from block to block. Most times the blocks get
     /// the right check for it.
-    pub(super) fn put(&mut self, at: usize, bytes: &[u8]) {
+    fn put(&mut self, at: usize, bytes: &[u8]) {
         let sealed = self.random.chance(92);
         let (mut at, mut rest) = (at, bytes);
         while !rest.is_empty() {
@@ -442,7 +442,7 @@ impl Script<'_> {
     }
 
     /// The count of a block, most times with the right check for it.
-    pub(super) fn put_count(&mut self, block: usize, count: usize) {
+    fn put_count(&mut self, block: usize, count: usize) {
         self.patch(block * BLOCK + 4, &(count as u16).to_le_bytes());
         if self.random.chance(92) {
             self.seal(block);
@@ -506,18 +506,11 @@ impl Script<'_> {
         let Some((place, record)) = self.any_record(laid) else {
             return;
         };
-        let (at, bytes) = self.heading_change(&record);
-        self.put(place + at, &bytes);
-        self.beside(place + laid.heading - 1);
-    }
-
-    /// Other bytes for a record's heading, and where in it they go.
-    pub(super) fn heading_change(&mut self, record: &Record) -> (usize, Vec<u8>) {
         let (text, dictionary) = (record.text.len() as u16, record.dictionary.len() as u16);
         let total = text + dictionary;
         // Only the longer heading has a caller and zeros behind it; in an older trail these places
         // are text, dictionary or the next heading.
-        match self.random.below(12) {
+        let (at, bytes): (usize, Vec<u8>) = match self.random.below(12) {
             0 | 1 => {
                 let number = match self.random.below(3) {
                     0 => self
@@ -560,7 +553,9 @@ impl Script<'_> {
             8 => (23, vec![self.random.pick(&[1, 45, 128, 255])]),
             9 => (24, self.caller().to_le_bytes().into()),
             _ => self.heading_zero(),
-        }
+        };
+        self.put(place + at, &bytes);
+        self.beside(place + laid.heading - 1);
     }
 
     /// A dictionary that breaks its rule, most times at its last byte.

@@ -1,7 +1,7 @@
 //! The scripts that are written, and long runs of them.
 
 use crate::answer::{Machine, LINE};
-use crate::log::{walk, MOST_CAPACITY};
+use crate::log::walk;
 use crate::script::{write_script, Kind};
 use std::collections::BTreeSet;
 
@@ -42,7 +42,7 @@ fn long_runs() {
             let answer = machine.answer(line);
             assert!(!answer.ends_with("CHANGED"), "{answer}");
             if let Some(log) = &mut machine.log {
-                let found = walk(log.bytes(), log.numbers(), MOST_CAPACITY).ok();
+                let found = walk(log.bytes(), log.numbers()).ok();
                 assert_eq!(found.as_ref(), log.records());
             }
             let word = line.split(|&b| b == b' ').next().unwrap();

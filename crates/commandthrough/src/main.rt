@@ -12,15 +12,14 @@ use std::num::{wrapping_add_u64, wrapping_add_usize};
 use syslog::Asked;
 
 // One record more than any log has room for.
-const RECORDS: u64 = (Log::CAPACITY_MOST / Heading::SIZE + 1) as u64;
+const RECORDS: u64 = 2049;
 
 const TYPE_MOST: u64 = 10;
 
 const TIMES_MOST: u64 = 4294967295;
 
-// More than the forms of any full log whose texts have no newline: 1,057 records of 960 bytes have 1,021,062. All newlines they have six times as many, which no
-// stack holds beside the log: a len above this is refused, and who asks for all of a log sees by the answer whether it was all.
-const LENT: usize = 1100000;
+// More than the forms of any full log: 63,392 newlines in 67 records have 444,213 bytes, with a prefix of four digits.
+const LENT: usize = 460000;
 
 // What every record has.
 const FACILITY: u64 = 16;
@@ -31,12 +30,6 @@ const CALLER: u32 = 4711;
 
 // From one record to the next, in nanoseconds.
 const APART: u64 = 1000999;
-
-// The log's buffer, as long as any log's, and the lent one. They are made where the program begins and lent on as arrays: no call then has to tell how long a
-// million zeros are.
-type Space = [u8; Log::CAPACITY_MOST];
-
-type Lent = [u8; LENT];
 
 // A number that was read, and the place behind the byte that ends it.
 #[derive(Drop)]
@@ -233,28 +226,22 @@ fn print_told(told: Told, sum: u64) {
 
 // ---- the whole
 
-fn ask(log: Log, buffer: &[u8], asked: Asked, lent: &mut Lent, times: u64) {
-    let told = ask_often(log, buffer, asked, lent, times);
-    print_told(told, checksum(lent));
+fn ask(log: Log, buffer: &[u8], asked: Asked, times: u64) {
+    let mut lent = [0u8; LENT];
+    let told = ask_often(log, buffer, asked, &mut lent, times);
+    print_told(told, checksum(&lent));
 }
 
-fn run(
-    space: &mut Space,
-    lent: &mut Lent,
-    bytes: usize,
-    every: usize,
-    capacity: usize,
-    asked: Asked,
-    times: u64,
-) {
+fn run(bytes: usize, every: usize, capacity: usize, asked: Asked, times: u64) {
     let mut text = [0u8; Heading::PAYLOAD];
     put_text(&mut text, every);
-    let buffer = first(space, capacity);
+    let mut space = [0u8; Log::CAPACITY_MOST];
+    let buffer = first(&mut space, capacity);
     let log = fill(buffer, slices::front(&text, bytes));
-    ask(log, buffer, asked, lent, times);
+    ask(log, buffer, asked, times);
 }
 
-fn run_line(line: &[u8], space: &mut Space, lent: &mut Lent) -> bool {
+fn run_line(line: &[u8]) -> bool {
     let Filling::Records(bytes, every, capacity, behind) = read_filling(line) else {
         return false;
     };
@@ -267,16 +254,14 @@ fn run_line(line: &[u8], space: &mut Space, lent: &mut Lent) -> bool {
         privilege: true,
         restriction: false,
     };
-    run(space, lent, bytes, every, capacity, asked, times);
+    run(bytes, every, capacity, asked, times);
     true
 }
 
 fn main() {
-    let mut space = [0u8; Log::CAPACITY_MOST];
-    let mut lent = [0u8; LENT];
     let mut input = [0u8; 64];
     let n = io::read_full(STDIN_FILENO, &mut input);
-    if !run_line(slices::front(&input, n), &mut space, &mut lent) {
+    if !run_line(slices::front(&input, n)) {
         io::write_all(STDOUT_FILENO, b"six numbers are wanted\n");
     }
 }

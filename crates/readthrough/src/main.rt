@@ -1,7 +1,6 @@
 // A full log read through: how many records and bytes of lines, and a checksum of them. bench/ has a plain program that does the same, and times both.
 //
-// Standard input is three numbers parted by single spaces and ended by a newline: the log's capacity, the bytes of text in each record, and how often the log is
-// read.
+// Standard input is two numbers parted by a space and ended by a newline: the bytes of text in each record, and how often the log is read.
 mod tally;
 
 use kmsg::Reader;
@@ -10,11 +9,10 @@ use log::{Answer, Log};
 use number::Decimal;
 use record::Heading;
 use slices::Found;
-use std::num::wrapping_add_usize;
 use tally::Tally;
 
 // One record more than any log has room for.
-const RECORDS: u64 = (Log::CAPACITY_MOST / Heading::SIZE + 1) as u64;
+const RECORDS: u64 = 2049;
 
 const TIMES_MOST: u64 = 1000000;
 
@@ -28,59 +26,31 @@ const CALLER: u32 = 4711;
 // From one record to the next, in nanoseconds.
 const APART: u64 = 1000999;
 
-// The log's buffer, as long as any log's. It is made where the program begins and lent on as an array: no call then has to tell how long a million zeros are.
-type Space = [u8; Log::CAPACITY_MOST];
-
-// What is asked for: the capacity, the bytes of text, how often the log is read.
+// What is asked for.
 #[derive(Drop)]
 enum Asked {
-    Records(usize, usize, u64),
+    Records(usize, u64),
     Nothing,
-}
-
-// A number that was read, and the place behind the byte that ends it.
-#[derive(Drop)]
-enum Read {
-    Number(u64, usize),
-    Nothing,
-}
-
-// The number that begins at a place and ends before the first `stop`.
-fn number_at(s: &[u8], at: usize, stop: u8, most: u64) -> Read {
-    if s.len() <= at {
-        return Read::Nothing;
-    }
-    let rest = &s[at..];
-    let Found::At(end) = slices::find(rest, stop) else {
-        return Read::Nothing;
-    };
-    let Decimal::Value(value) = number::read_decimal(slices::front(rest, end), most) else {
-        return Read::Nothing;
-    };
-    let behind = wrapping_add_usize(at, end);
-    Read::Number(value, wrapping_add_usize(behind, 1))
 }
 
 fn understand(s: &[u8]) -> Asked {
-    let Read::Number(capacity, second) = number_at(s, 0, b' ', Log::CAPACITY_MOST as u64) else {
+    let Found::At(space) = slices::find(s, b' ') else {
         return Asked::Nothing;
     };
-    let Read::Number(bytes, third) = number_at(s, second, b' ', Heading::PAYLOAD as u64) else {
+    let rest = slices::past(s, space);
+    let Found::At(end) = slices::find(rest, b'\n') else {
         return Asked::Nothing;
     };
-    let Read::Number(times, _) = number_at(s, third, b'\n', TIMES_MOST) else {
+    let Decimal::Value(bytes) = number::read_decimal(
+        slices::front(s, space),
+        Heading::PAYLOAD as u64,
+    ) else {
         return Asked::Nothing;
     };
-    Asked::Records(capacity as usize, bytes as usize, times)
-}
-
-// The first bytes, so many at most.
-fn first(buffer: &mut [u8], most: usize) -> &mut [u8] {
-    if most < buffer.len() {
-        &mut buffer[..most]
-    } else {
-        buffer
-    }
+    let Decimal::Value(times) = number::read_decimal(slices::front(rest, end), TIMES_MOST) else {
+        return Asked::Nothing;
+    };
+    Asked::Records(bytes as usize, times)
 }
 
 // Letters in turn.
@@ -146,24 +116,23 @@ fn read_often(log: Log, buffer: &[u8], lent: &mut [u8], times: u64) -> Tally {
     tally
 }
 
-fn run(space: &mut Space, capacity: usize, bytes: usize, times: u64) {
+fn run(bytes: usize, times: u64) {
     let mut text = [0u8; Heading::PAYLOAD];
     letters(&mut text);
-    let buffer = first(space, capacity);
-    let log = fill(buffer, slices::front(&text, bytes));
+    let mut buffer = [0u8; Log::CAPACITY_MOST];
+    let log = fill(&mut buffer, slices::front(&text, bytes));
     let mut lent = [0u8; Heading::LINE_MOST];
-    let tally = read_often(log, buffer, &mut lent, times);
+    let tally = read_often(log, &buffer, &mut lent, times);
     tally.print();
 }
 
 fn main() {
-    let mut space = [0u8; Log::CAPACITY_MOST];
     let mut input = [0u8; 64];
     let n = io::read_full(STDIN_FILENO, &mut input);
     match understand(slices::front(&input, n)) {
-        Asked::Records(capacity, bytes, times) => run(&mut space, capacity, bytes, times),
+        Asked::Records(bytes, times) => run(bytes, times),
         Asked::Nothing => {
-            io::write_all(STDOUT_FILENO, b"three numbers are wanted\n");
+            io::write_all(STDOUT_FILENO, b"two numbers are wanted\n");
         }
     }
 }

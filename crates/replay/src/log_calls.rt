@@ -11,7 +11,7 @@ use script::words::{Bytes, Words};
 use script::{decimals, lent, words};
 
 // The log's buffer, as long as a script may ask for.
-pub type Buffer = [u8; 1100000];
+pub type Buffer = [u8; 70000];
 
 // A fresh log: all readers go.
 pub fn fresh(before: State, words: Words, buffer: &mut Buffer) -> Called {

@@ -17,12 +17,12 @@ fn main() {
     let mut chunk = io::large_buffer();
     let mut line = [0u8; 40001];
     let mut bytes = [0u8; 20000];
-    let mut buffer = [0u8; 1100000];
+    let mut buffer = [0u8; 70000];
     let mut slots = [0u8; Board::BUFFER];
     let mut texts = [0u8; Joiner::BUFFER];
-    let mut image = [0u8; 1200000];
-    let mut file = [0u8; 1200000];
-    let mut space = [0u8; 1200000];
+    let mut image = [0u8; 90000];
+    let mut file = [0u8; 90000];
+    let mut space = [0u8; 300000];
     lines::run(
         &mut chunk,
         &mut line,

@@ -10,7 +10,7 @@ use script::words::{Bytes, Words};
 use script::{decimals, lent, words};
 
 // The image's buffer and the file's, as long as a script may ask for.
-pub type Disk = [u8; 1200000];
+pub type Disk = [u8; 90000];
 
 const BLOCK: usize = 512;
 

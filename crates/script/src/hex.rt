@@ -67,29 +67,23 @@ fn digit(n: u8) -> u8
     if n < 10 { b'0' + n } else { b'a' + (n - 10) }
 }
 
-// How many bytes are written in one go.
-const SOME: usize = 500;
-
-// Their digits.
-const DIGITS: usize = 2 * SOME;
-
-// The digits of the k-th of them.
-fn put(b: u8, out: &mut [u8; DIGITS], k: usize) {
-    if k < SOME {
+// The digits of the k-th of 500 bytes.
+fn put(b: u8, out: &mut [u8; 1000], k: usize) {
+    if k < 500 {
         out[2 * k] = digit(b / 16);
         out[2 * k + 1] = digit(b % 16);
     }
 }
 
-fn say(digits: &[u8; DIGITS], count: usize) {
+fn say(digits: &[u8; 1000], count: usize) {
     answers::say(slices::front(digits, count));
 }
 
-// The first of them as hex on standard output.
+// At most 500 bytes as hex on standard output.
 fn print_some(bytes: &[u8]) {
-    let mut out = [0u8; DIGITS];
+    let mut out = [0u8; 1000];
     let mut k = 0;
-    while k < SOME {
+    while k < 500 {
         if bytes.len() <= k {
             break;
         }
@@ -99,19 +93,15 @@ fn print_some(bytes: &[u8]) {
     say(&out, 2 * k);
 }
 
-// Bytes as hex on standard output, some after the other.
+// Bytes as hex on standard output, some after the other: the space has no more than 600 times 500.
 pub(crate) fn print(bytes: &[u8]) {
     if bytes.len() == 0 {
         answers::say(b"-");
         return;
     }
     let mut from = 0;
-    while from < bytes.len() {
-        let left = bytes.len() - from;
-        print_some(lent::part(bytes, from, SOME));
-        if left <= SOME {
-            return;
-        }
-        from += SOME;
+    while from < 300000 {
+        print_some(lent::part(bytes, from, 500));
+        from += 500;
     }
 }

@@ -3,8 +3,8 @@
 // A lent buffer is filled with this before a call.
 pub const FILL: u8 = 165;
 
-// Room for the longest buffer that a line lends, for a copy of the largest log's bytes, and for what is told of other buffers.
-pub type Space = [u8; 1200000];
+// Room for the longest buffer that a line lends, and for what is told of other buffers.
+pub type Space = [u8; 300000];
 
 pub fn fill(buffer: &mut [u8], b: u8) {
     let mut i = 0;
@@ -14,16 +14,16 @@ pub fn fill(buffer: &mut [u8], b: u8) {
     }
 }
 
-// Every byte from a place on is as it was before the call. The loop has no branch for a byte, here and in `are_same`, so that the compiler makes it one that
-// takes many at a time: a large log's bytes are looked over at every write.
+// Every byte from a place on is as it was before the call.
 pub fn stayed(buffer: &[u8], from: usize) -> bool {
-    let mut changed: u8 = 0;
     let mut i = from;
     while i < buffer.len() {
-        changed = changed | (buffer[i] ^ FILL);
+        if buffer[i] != FILL {
+            return false;
+        }
         i += 1;
     }
-    changed == 0
+    true
 }
 
 // The bytes from one place to another, as far as they lie inside.
@@ -98,36 +98,35 @@ pub fn distance(from: usize, to: usize, capacity: usize) -> usize {
     if to < capacity { before_end + to } else { 0 }
 }
 
-// Two runs have the same bytes.
-fn are_same(a: &[u8], b: &[u8]) -> bool {
-    if a.len() != b.len() {
+// A place of a ring lies among so many bytes from another place on.
+fn is_inside(place: usize, from: usize, bytes: usize, capacity: usize) -> bool {
+    if from <= place {
+        return place - from < bytes;
+    }
+    if capacity < from {
         return false;
     }
-    let mut changed: u8 = 0;
+    // the bytes before the ring's end come first
+    let before_end = capacity - from;
+    if bytes <= before_end {
+        return false;
+    }
+    place < bytes - before_end
+}
+
+// Every byte is as it was, but for so many from a place of a ring on.
+pub fn stayed_around(before: &[u8], after: &[u8], from: usize, bytes: usize) -> bool {
     let mut i = 0;
-    while i < a.len() {
-        changed = changed | (a[i] ^ b[i]);
+    while i < after.len() {
+        if before.len() <= i {
+            return false;
+        }
+        if before[i] != after[i] {
+            if !is_inside(i, from, bytes, after.len()) {
+                return false;
+            }
+        }
         i += 1;
     }
-    changed == 0
-}
-
-// Every byte from one place to another is as it was.
-fn stayed_between(before: &[u8], after: &[u8], from: usize, to: usize) -> bool {
-    are_same(between(before, from, to), between(after, from, to))
-}
-
-// Every byte is as it was, but for so many from a place of a ring on. What lay in the ring before stands at the front of `before`.
-pub fn stayed_around(before: &[u8], after: &[u8], from: usize, bytes: usize) -> bool {
-    let capacity = after.len();
-    let ring = slices::front(before, capacity);
-    if capacity < from {
-        return are_same(ring, after);
-    }
-    let before_end = capacity - from;
-    if before_end < bytes {
-        // the bytes go on at the ring's start
-        return stayed_between(ring, after, bytes - before_end, from);
-    }
-    stayed_between(ring, after, 0, from) & stayed_between(ring, after, from + bytes, capacity)
+    true
 }

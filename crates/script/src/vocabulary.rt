@@ -14,7 +14,7 @@
 use crate::words::{Bytes, Word, Words};
 use crate::{lent, words};
 
-pub const ROWS: [u8; 1215] = *b"f0 log #1100000 #255=log\n\
+pub const ROWS: [u8; 1209] = *b"f0 log #70000 #255=log\n\
     l0 check=fine|numbers|heading n\n\
     l1 numbers=n n n n n n n n n n|n n n n n n n n n -\n\
     l2 peek # #=h\n\
@@ -51,8 +51,8 @@ pub const ROWS: [u8; 1215] = *b"f0 log #1100000 #255=log\n\
     j2 open #23=shut|open h\n\
     q0 line $=n|n n n n n h m\n\
     q1 console ~9223372036854775807 ~9223372036854775807=yes|no\n\
-    s0 save #4294967295 @1200000=i h\n\
-    d0 disk #1200000 #255=disk\n\
+    s0 save #4294967295 @90000=i h\n\
+    d0 disk #90000 #255=disk\n\
     t0 cut #=cut n\n\
     t1 patch # $=patched\n\
     t2 trail=trail\n\

@@ -15,7 +15,7 @@ use std::num::{wrapping_add_u64, wrapping_add_usize};
 use tally::{Sum, Tally};
 
 // One record more than any log has room for.
-const RECORDS: u64 = (Log::CAPACITY_MOST / Heading::SIZE + 1) as u64;
+const RECORDS: u64 = 2049;
 
 const TIMES_MOST: u64 = 4294967295;
 
@@ -28,12 +28,6 @@ const CALLER: u32 = 4711;
 
 // From one record to the next, in nanoseconds.
 const APART: u64 = 1000999;
-
-// The log's buffer and the image's, as long as any log's. They are made where the program begins and lent on as arrays: no call then has to tell how long a
-// million zeros are.
-type Space = [u8; Log::CAPACITY_MOST];
-
-type Image = [u8; Reader::LONGEST];
 
 // A number that was read, and the place behind its newline.
 #[derive(Drop)]
@@ -215,33 +209,31 @@ fn read_back(file: &[u8], reads: u64) {
     sum.print(b"records");
 }
 
-fn save_and_read(log: Log, buffer: &[u8], out: &mut Image, saves: u64, reads: u64) {
-    let bytes = save_often(log, buffer, out, saves);
+fn save_and_read(log: Log, buffer: &[u8], saves: u64, reads: u64) {
+    let mut out = [0u8; Reader::LONGEST];
+    let bytes = save_often(log, buffer, &mut out, saves);
     print(bytes, b" bytes saved\n");
-    let image = save_once(log, buffer, saves, out);
-    let file = slices::front(out, image);
+    let image = save_once(log, buffer, saves, &mut out);
+    let file = slices::front(&out, image);
     let sum = Sum::new().with(file);
     sum.print(b"image");
     read_back(file, reads);
 }
 
-fn run(space: &mut Space, out: &mut Image, capacity: usize, bytes: usize, saves: u64, reads: u64) {
+fn run(capacity: usize, bytes: usize, saves: u64, reads: u64) {
     let mut text = [0u8; Heading::PAYLOAD];
     letters(&mut text);
-    let buffer = first(space, capacity);
+    let mut space = [0u8; Log::CAPACITY_MOST];
+    let buffer = first(&mut space, capacity);
     let log = fill(buffer, slices::front(&text, bytes));
-    save_and_read(log, buffer, out, saves, reads);
+    save_and_read(log, buffer, saves, reads);
 }
 
 fn main() {
-    let mut space = [0u8; Log::CAPACITY_MOST];
-    let mut out = [0u8; Reader::LONGEST];
     let mut input = [0u8; 64];
     let n = io::read_full(STDIN_FILENO, &mut input);
     match understand(slices::front(&input, n)) {
-        Asked::Trail(capacity, bytes, saves, reads) => {
-            run(&mut space, &mut out, capacity, bytes, saves, reads)
-        }
+        Asked::Trail(capacity, bytes, saves, reads) => run(capacity, bytes, saves, reads),
         Asked::Nothing => {
             io::write_all(
                 STDOUT_FILENO,

@@ -17,9 +17,6 @@ const TIMES_MOST: u64 = 100000000;
 // Who writes.
 const CALLER: u32 = 4711;
 
-// The log's buffer, as long as any log's. It is made where the program begins and lent on as an array: no call then has to tell how long a million zeros are.
-type Space = [u8; Log::CAPACITY_MOST];
-
 // What is asked for: the capacity, and how often.
 #[derive(Drop)]
 enum Asked {
@@ -118,8 +115,9 @@ fn print_oldest(log: Log, buffer: &[u8], lent: &mut [u8]) {
     io::write_all(STDOUT_FILENO, slices::front(lent, bytes as usize));
 }
 
-fn run(space: &mut Space, capacity: usize, times: u64, message: &[u8]) {
-    let buffer = first(space, capacity);
+fn run(capacity: usize, times: u64, message: &[u8]) {
+    let mut space = [0u8; Log::CAPACITY_MOST];
+    let buffer = first(&mut space, capacity);
     let told = write_often(buffer, message, times);
     print_told(told);
     let mut lent = [0u8; Heading::LINE_MOST];
@@ -127,14 +125,12 @@ fn run(space: &mut Space, capacity: usize, times: u64, message: &[u8]) {
 }
 
 fn main() {
-    let mut space = [0u8; Log::CAPACITY_MOST];
     let mut input = [0u8; INPUT];
     let n = io::read_full(STDIN_FILENO, &mut input);
     let all = slices::front(&input, n);
     match understand(all) {
         Asked::Writes(capacity, times) => {
             run(
-                &mut space,
                 capacity,
                 times,
                 slices::past(all, slices::until(all, b'\n')),

@@ -11,7 +11,7 @@ use log::Log;
 use std::io::Read;
 use syslog::{command, Asked};
 
-const LENT: usize = 1_100_000;
+const LENT: usize = 460_000;
 /// Who writes every record.
 const CALLER: u32 = 4_711;
 

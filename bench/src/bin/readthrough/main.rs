@@ -1,5 +1,5 @@
-//! What crates/readthrough does, as plain safe Rust: fills a log and reads it through.
-//! Standard input is three numbers: the log's capacity, the bytes of text in each record, and how often the log is read.
+//! What crates/readthrough does, as plain safe Rust: fills a log of 65,536 bytes and reads it through.
+//! Standard input is two numbers: the bytes of text in each record, and how often the log is read.
 
 #[path = "../../log.rs"]
 #[allow(dead_code)] // the calls of the other programs
@@ -8,6 +8,7 @@ mod log;
 use log::{Log, Refusal};
 use std::io::Read;
 
+const CAPACITY: usize = 65_536;
 const LINE_MOST: usize = 3_905;
 /// Who writes every record.
 const CALLER: u32 = 4_711;
@@ -57,11 +58,11 @@ fn main() {
     let mut input = String::new();
     std::io::stdin().read_to_string(&mut input).expect("standard input");
     let numbers: Vec<usize> = input.split_whitespace().map(|word| word.parse().expect("a number")).collect();
-    let [capacity, bytes, times] = numbers[..] else {
-        panic!("three numbers are wanted");
+    let [bytes, times] = numbers[..] else {
+        panic!("two numbers are wanted");
     };
     let text: Vec<u8> = (b'a'..=b'z').cycle().take(bytes).collect();
-    let mut buffer = vec![0; capacity];
+    let mut buffer = vec![0; CAPACITY];
     let mut log = Log::fresh(&mut buffer);
     fill(&mut log, &text);
     let mut lent = [0; LINE_MOST];

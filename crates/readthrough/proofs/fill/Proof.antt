@@ -4,10 +4,10 @@ use Rattle.readthrough.proofs.fill.Statement.{statement}
 use Rattle.readthrough.proofs.fill.Tie as tie
 
 abbrev invariant-loop : tie.invariant-loop
-invariant-loop buffer₀ text log₀ n₀ buffer log n = (n ≤ 32769) × (length buffer ≡ length buffer₀)
+invariant-loop buffer₀ text log₀ n₀ buffer log n = (n ≤ 2049) × (length buffer ≡ length buffer₀)
 
 abbrev decreases-loop : tie.decreases-loop
-decreases-loop buffer₀ text log₀ n₀ buffer log n = 32769 - n
+decreases-loop buffer₀ text log₀ n₀ buffer log n = 2049 - n
 
 new-requires : tie.Need-new-requires invariant-loop decreases-loop
 new-requires c κs = search rules

@@ -4,10 +4,10 @@ use Rattle.readthrough.proofs.read_through.Statement.{statement}
 use Rattle.readthrough.proofs.read_through.Tie as tie
 
 abbrev invariant-loop : tie.invariant-loop
-invariant-loop log buffer lent₀ tally₀ reader₀ n₀ lent tally reader n = (n ≤ 32769) × (length lent ≡ length lent₀)
+invariant-loop log buffer lent₀ tally₀ reader₀ n₀ lent tally reader n = (n ≤ 2049) × (length lent ≡ length lent₀)
 
 abbrev decreases-loop : tie.decreases-loop
-decreases-loop log buffer lent₀ tally₀ reader₀ n₀ lent tally reader n = 32769 - n
+decreases-loop log buffer lent₀ tally₀ reader₀ n₀ lent tally reader n = 2049 - n
 
 new-requires : tie.Need-new-requires invariant-loop decreases-loop
 new-requires c κs = search rules

@@ -4,10 +4,10 @@ use Rattle.trailthrough.proofs.sum_through.Statement.{statement}
 use Rattle.trailthrough.proofs.sum_through.Tie as tie
 
 abbrev invariant-loop : tie.invariant-loop
-invariant-loop file result₀ sum₀ reader₀ n₀ result sum reader n = (n ≤ 32769) × (length result ≡ length result₀)
+invariant-loop file result₀ sum₀ reader₀ n₀ result sum reader n = (n ≤ 2049) × (length result ≡ length result₀)
 
 abbrev decreases-loop : tie.decreases-loop
-decreases-loop file result₀ sum₀ reader₀ n₀ result sum reader n = 32769 - n
+decreases-loop file result₀ sum₀ reader₀ n₀ result sum reader n = 2049 - n
 
 new-requires : tie.Need-new-requires invariant-loop decreases-loop
 new-requires c κs = search rules

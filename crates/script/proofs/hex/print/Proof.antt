@@ -1,13 +1,13 @@
--- `script::hex::print` is safe and ends: it goes on by so many bytes as long as there are more.
-use Rattle.std.proofs.Common.{◌-◌, length, rules}
+-- `script::hex::print` is safe and ends: it goes on by 500 up to the length of the space.
+use Rattle.std.proofs.Common.{◌-◌, ◌≤◌, rules}
 use Rattle.script.proofs.hex.print.Statement.{statement}
 use Rattle.script.proofs.hex.print.Tie as tie
 
 abbrev invariant-loop : tie.invariant-loop
-invariant-loop bytes from₀ from = Unit {0}
+invariant-loop bytes from₀ from = from ≤ 300500
 
 abbrev decreases-loop : tie.decreases-loop
-decreases-loop bytes from₀ from = length bytes - from
+decreases-loop bytes from₀ from = 300000 - from
 
 slice-aggregate-say : tie.Need-slice-aggregate-say invariant-loop decreases-loop
 slice-aggregate-say c = search rules
@@ -21,17 +21,11 @@ returns c = search rules
 loop-holds : tie.Need-loop-init invariant-loop decreases-loop
 loop-holds c = search rules
 
-sub-left : tie.Need-overflow-sub-left invariant-loop decreases-loop
-sub-left c = search rules
-
 part-requires : tie.Need-part-requires invariant-loop decreases-loop
 part-requires c κs = search rules
 
 print-some-requires : tie.Need-print-some-requires invariant-loop decreases-loop
 print-some-requires c κs = search rules
-
-returns-2 : tie.Need-returns-2 invariant-loop decreases-loop
-returns-2 c = search rules
 
 add-from : tie.Need-overflow-add-from invariant-loop decreases-loop
 add-from c = search rules
@@ -42,8 +36,8 @@ loop-less c = search rules
 loop-again : tie.Need-loop-preserved invariant-loop decreases-loop
 loop-again c = search rules
 
-returns-3 : tie.Need-returns-3 invariant-loop decreases-loop
-returns-3 c = search rules
+returns-2 : tie.Need-returns-2 invariant-loop decreases-loop
+returns-2 c = search rules
 
 pub print-spec : {M : Type 1} → statement M
 print-spec =
@@ -55,11 +49,9 @@ print-spec =
     say-requires
     returns
     loop-holds
-    sub-left
     part-requires
     print-some-requires
-    returns-2
     add-from
     loop-less
     loop-again
-    returns-3)
+    returns-2)

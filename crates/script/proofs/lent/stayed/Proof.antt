@@ -4,16 +4,19 @@ use Rattle.script.proofs.lent.stayed.Statement.{statement}
 use Rattle.script.proofs.lent.stayed.Tie as tie
 
 abbrev invariant-loop : tie.invariant-loop
-invariant-loop buffer from changed₀ i₀ changed i = Unit {0}
+invariant-loop buffer from i₀ i = Unit {0}
 
 abbrev decreases-loop : tie.decreases-loop
-decreases-loop buffer from changed₀ i₀ changed i = length buffer - i
+decreases-loop buffer from i₀ i = length buffer - i
 
 loop-holds : tie.Need-loop-init invariant-loop decreases-loop
 loop-holds c = search rules
 
-shared-slice-read-changed : tie.Need-shared-slice-read-changed invariant-loop decreases-loop
-shared-slice-read-changed c = search rules
+shared-slice-read-if1 : tie.Need-shared-slice-read-if1 invariant-loop decreases-loop
+shared-slice-read-if1 c = search rules
+
+returns : tie.Need-returns invariant-loop decreases-loop
+returns c = search rules
 
 add-i : tie.Need-overflow-add-i invariant-loop decreases-loop
 add-i c = search rules
@@ -24,8 +27,8 @@ loop-less c = search rules
 loop-again : tie.Need-loop-preserved invariant-loop decreases-loop
 loop-again c = search rules
 
-returns : tie.Need-returns invariant-loop decreases-loop
-returns c = search rules
+returns-2 : tie.Need-returns-2 invariant-loop decreases-loop
+returns-2 c = search rules
 
 pub stayed-spec : {M : Type 1} → statement M
 stayed-spec =
@@ -34,8 +37,9 @@ stayed-spec =
     invariant-loop
     decreases-loop
     loop-holds
-    shared-slice-read-changed
+    shared-slice-read-if1
+    returns
     add-i
     loop-less
     loop-again
-    returns)
+    returns-2)

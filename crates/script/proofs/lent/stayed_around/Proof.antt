@@ -1,0 +1,57 @@
+-- `script::lent::stayed_around` is safe and ends.
+use Rattle.std.proofs.Common.{◌-◌, length, rules}
+use Rattle.script.proofs.lent.stayed_around.Statement.{statement}
+use Rattle.script.proofs.lent.stayed_around.Tie as tie
+
+abbrev invariant-loop : tie.invariant-loop
+invariant-loop before after from bytes i₀ i = Unit {0}
+
+abbrev decreases-loop : tie.decreases-loop
+decreases-loop before after from bytes i₀ i = length after - i
+
+loop-holds : tie.Need-loop-init invariant-loop decreases-loop
+loop-holds c = search rules
+
+returns : tie.Need-returns invariant-loop decreases-loop
+returns c = search rules
+
+shared-slice-read-if2 : tie.Need-shared-slice-read-if2 invariant-loop decreases-loop
+shared-slice-read-if2 c = search rules
+
+shared-slice-read-if2-2 : tie.Need-shared-slice-read-if2-2 invariant-loop decreases-loop
+shared-slice-read-if2-2 c = search rules
+
+is-inside-requires : tie.Need-is-inside-requires invariant-loop decreases-loop
+is-inside-requires c κs = search rules
+
+returns-2 : tie.Need-returns-2 invariant-loop decreases-loop
+returns-2 c = search rules
+
+add-i : tie.Need-overflow-add-i invariant-loop decreases-loop
+add-i c = search rules
+
+loop-less : tie.Need-loop-smaller invariant-loop decreases-loop
+loop-less c = search rules
+
+loop-again : tie.Need-loop-preserved invariant-loop decreases-loop
+loop-again c = search rules
+
+returns-3 : tie.Need-returns-3 invariant-loop decreases-loop
+returns-3 c = search rules
+
+pub stayed-around-spec : {M : Type 1} → statement M
+stayed-around-spec =
+    tie.close
+    (tie.spec
+    invariant-loop
+    decreases-loop
+    loop-holds
+    returns
+    shared-slice-read-if2
+    shared-slice-read-if2-2
+    is-inside-requires
+    returns-2
+    add-i
+    loop-less
+    loop-again
+    returns-3)
