@@ -4,7 +4,7 @@
 // Standard input is six numbers parted by single spaces and ended by a newline: the bytes of text in each record, after how many of them each is a newline (0: none
 // is), the log's capacity; the command's type, its len, and how often it is asked.
 use libc::{STDIN_FILENO, STDOUT_FILENO};
-use log::{Answer, Log};
+use eventlog::{Answer, Log};
 use number::Decimal;
 use record::Heading;
 use slices::Found;

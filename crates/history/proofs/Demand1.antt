@@ -12,11 +12,11 @@ use lib.ListN
 use lib.ListN.{length, get_or}
 use lib.Seq.{set-get_or}
 use Rattle.record.specs.Record.{Record}
-use Rattle.log.specs.Answer.{refusal_number, Ruling, allowed, refused}
-use Rattle.log.specs.Check.{marks_of, view_of, with_marks, ruled}
-use Rattle.log.specs.declared.Log.{Log}
-use Rattle.log.specs.declared.Refusal.{Refusal}
-use Rattle.log.specs.declared.Refusal.TheVariants.{EBADFD, EPERM, ESPIPE, EINVAL, EFAULT, EOVERFLOW, EPIPE, EAGAIN}
+use Rattle.eventlog.specs.Answer.{refusal_number, Ruling, allowed, refused}
+use Rattle.eventlog.specs.Check.{marks_of, view_of, with_marks, ruled}
+use Rattle.eventlog.specs.declared.Log.{Log}
+use Rattle.eventlog.specs.declared.Refusal.{Refusal}
+use Rattle.eventlog.specs.declared.Refusal.TheVariants.{EBADFD, EPERM, ESPIPE, EINVAL, EFAULT, EOVERFLOW, EPIPE, EAGAIN}
 use Rattle.savedtrail.specs.Save.{save_by, saving}
 use Rattle.writes.specs.Write.{write_by, outside_write, box_write}
 use Rattle.kmsg.specs.Read.{AfterRead, read_refused, read_done, read_by, reading, AfterSeek, seek_ruling, seek_by, seeking}

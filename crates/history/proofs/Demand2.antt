@@ -12,12 +12,12 @@ use lib.ListN.{length, get_or}
 use Rattle.record.specs.Limits.{capacity_least, capacity_most}
 use Rattle.record.specs.Record.{Record, cost}
 use Rattle.ring.specs.Ring.{unrolled}
-use Rattle.log.specs.Answer.{Ruling, allowed, refused}
-use Rattle.log.specs.View.{Marks, View, next_of}
-use Rattle.log.specs.Check.{fresh_log, records_in, checked, marks_of, view_of, with_marks, ruled}
-use Rattle.log.specs.Excess.{excess}
+use Rattle.eventlog.specs.Answer.{Ruling, allowed, refused}
+use Rattle.eventlog.specs.View.{Marks, View, next_of}
+use Rattle.eventlog.specs.Check.{fresh_log, records_in, checked, marks_of, view_of, with_marks, ruled}
+use Rattle.eventlog.specs.Excess.{excess}
 use Rattle.store.specs.Write.{dropped_by, written_log, written_buffer}
-use Rattle.log.specs.declared.Verdict.TheVariants.{Fine}
+use Rattle.eventlog.specs.declared.Verdict.TheVariants.{Fine}
 use Rattle.store.proofs.StoredLaws.{Storable}
 use Rattle.store.proofs.HoldsLaws.{Holds, goes, grown, dropped-is, length-written, holds_written, written_view}
 use Rattle.store.proofs.MarkLaws.{fine}

@@ -7,8 +7,8 @@ use lib.Dec.{ltb}
 use lib.ListN.{length, drop}
 use Rattle.record.specs.Limits.{capacity_least, payload_most}
 use Rattle.record.specs.Record.{Record, cost}
-use Rattle.log.specs.Answer.{Ruling, allowed, refused}
-use Rattle.log.proofs.ExcessLaws.{excess-few}
+use Rattle.eventlog.specs.Answer.{Ruling, allowed, refused}
+use Rattle.eventlog.proofs.ExcessLaws.{excess-few}
 use Rattle.store.proofs.HoldsLaws.{goes}
 use Rattle.writes.specs.Write.{outside_record, box_record, outside_ruling, box_ruling}
 use Rattle.writes.specs.FineLog.{dropped_most}

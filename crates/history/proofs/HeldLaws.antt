@@ -6,8 +6,8 @@ use native.Mathlib.Omega.{arith}
 use lib.ListN.{length, get_or, length-drop}
 use lib.Seq.{drop-drop, drop-append-le, get_or-drop}
 use Rattle.record.specs.Record.{Record, cost}
-use Rattle.log.specs.View.{next_of, record_at, no_record}
-use Rattle.log.proofs.ExcessLaws.{excess-some, excess-fits, excess-least, excess-twice, excess-append}
+use Rattle.eventlog.specs.View.{next_of, record_at, no_record}
+use Rattle.eventlog.proofs.ExcessLaws.{excess-some, excess-fits, excess-least, excess-twice, excess-append}
 use Rattle.store.proofs.HoldsLaws.{goes, grown}
 use Rattle.history.specs.Past.{Past, first_held, held, accept}
 use Rattle.history.specs.Demand2.{HeldLongest}

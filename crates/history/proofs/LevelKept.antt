@@ -12,10 +12,10 @@ use Rattle.console.specs.declared.Console.{Console}
 use Rattle.console.specs.declared.Saved.TheVariants.{Nothing, Level}
 use Rattle.console.proofs.TurnLaws.{off-saves, off_keeps, set_keeps, minimum_keeps, on_restores, on_empties}
 use Rattle.record.specs.Record.{Record}
-use Rattle.log.specs.Answer.{Ruling, allowed, refused, is, natural}
-use Rattle.log.specs.View.{View}
-use Rattle.log.specs.declared.Refusal.{Refusal}
-use Rattle.log.specs.declared.Refusal.TheVariants.{EPERM}
+use Rattle.eventlog.specs.Answer.{Ruling, allowed, refused, is, natural}
+use Rattle.eventlog.specs.View.{View}
+use Rattle.eventlog.specs.declared.Refusal.{Refusal}
+use Rattle.eventlog.specs.declared.Refusal.TheVariants.{EPERM}
 use Rattle.writes.specs.Write.{outside_record, box_record, outside_ruling, box_ruling}
 use Rattle.syslog.specs.Command.{command_ruling, marks_after, command_by}
 use Rattle.syslog.specs.Minimum.{minimum_ruling, minimum_by}

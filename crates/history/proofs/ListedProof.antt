@@ -18,16 +18,16 @@ use Rattle.slices.proofs.ReflectLaws.{Reflects, not_says, or_says, ltb_says}
 use Rattle.record.specs.Limits.{payload_most, word_most, facility_most, level_most}
 use Rattle.record.specs.Dictionary.{is_dictionary}
 use Rattle.record.specs.Record.{Record}
-use Rattle.log.specs.Answer.{refusal_number, Ruling, allowed, refused, ruling_of, is, one_of, is_negative, natural}
+use Rattle.eventlog.specs.Answer.{refusal_number, Ruling, allowed, refused, ruling_of, is, one_of, is_negative, natural}
 use Rattle.record.specs.Forms.{kmsg_line}
-use Rattle.log.specs.View.{View, next_of, record_at}
-use Rattle.log.specs.Check.{checked, view_of, if_fine, ruled}
-use Rattle.log.specs.Excess.{total}
-use Rattle.log.specs.declared.Log.{Log}
-use Rattle.log.specs.declared.Verdict.{Verdict}
-use Rattle.log.specs.declared.Verdict.TheVariants.{Fine, Numbers, Heading}
-use Rattle.log.specs.declared.Refusal.{Refusal}
-use Rattle.log.specs.declared.Refusal.TheVariants.{EBADFD, EPERM, ESPIPE, EINVAL, EFAULT, EOVERFLOW, EPIPE, EAGAIN}
+use Rattle.eventlog.specs.View.{View, next_of, record_at}
+use Rattle.eventlog.specs.Check.{checked, view_of, if_fine, ruled}
+use Rattle.eventlog.specs.Excess.{total}
+use Rattle.eventlog.specs.declared.Log.{Log}
+use Rattle.eventlog.specs.declared.Verdict.{Verdict}
+use Rattle.eventlog.specs.declared.Verdict.TheVariants.{Fine, Numbers, Heading}
+use Rattle.eventlog.specs.declared.Refusal.{Refusal}
+use Rattle.eventlog.specs.declared.Refusal.TheVariants.{EBADFD, EPERM, ESPIPE, EINVAL, EFAULT, EOVERFLOW, EPIPE, EAGAIN}
 use Rattle.store.proofs.MarkLaws.{Marked}
 use Rattle.image.specs.Image.{blocks_for}
 use Rattle.savedtrail.specs.Save.{image_for, save_ruling, save_by, saving}

@@ -4,9 +4,9 @@ use mathlib.Core.Bool.{false, false≢true}
 use mathlib.Core.List.{List}
 use Prim.Native.Nat.{ℕ}
 use lib.ListN.{length}
-use Rattle.log.specs.View.{View}
-use Rattle.log.specs.Check.{checked, view_of}
-use Rattle.log.specs.declared.Verdict.TheVariants.{Fine}
+use Rattle.eventlog.specs.View.{View}
+use Rattle.eventlog.specs.Check.{checked, view_of}
+use Rattle.eventlog.specs.declared.Verdict.TheVariants.{Fine}
 use Rattle.store.proofs.FineHolds.{fine_marked}
 use Rattle.history.specs.Calls.{Call, State}
 use Rattle.history.specs.Past.{Past, held, fresh_past}

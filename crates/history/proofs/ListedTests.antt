@@ -16,9 +16,9 @@ use Rattle.slices.proofs.ReflectLaws.{Reflects, not_says, and_says, or_says, ltb
 use Rattle.record.specs.Limits.{payload_most, facility_most, level_most}
 use Rattle.record.specs.Dictionary.{is_dictionary, Dictionary}
 use Rattle.record.proofs.DictionaryLaws.{dictionary_says}
-use Rattle.log.specs.Answer.{is, one_of, is_negative, natural}
-use Rattle.log.specs.View.{View, next_of}
-use Rattle.log.specs.Excess.{total}
+use Rattle.eventlog.specs.Answer.{is, one_of, is_negative, natural}
+use Rattle.eventlog.specs.View.{View, next_of}
+use Rattle.eventlog.specs.Excess.{total}
 use Rattle.store.proofs.StoredLaws.{length-bytes}
 use Rattle.image.specs.Block.{block_size}
 use Rattle.image.specs.Coding.{joined}

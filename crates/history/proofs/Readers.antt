@@ -13,10 +13,10 @@ use lib.ListN.{length, get_or, take, drop, length-append, length-set, get_or-app
 use lib.Seq.{take-append_seam, get_or-set_same, get_or-set_other}
 use Rattle.record.specs.Record.{Record}
 use Rattle.record.specs.Forms.{kmsg_line}
-use Rattle.log.specs.Answer.{refusal_number, Ruling, allowed, refused, ruling_of}
-use Rattle.log.specs.View.{next_of, record_at, no_record}
-use Rattle.log.specs.declared.Refusal.{Refusal}
-use Rattle.log.specs.declared.Refusal.TheVariants.{EBADFD, EINVAL, EPIPE, EAGAIN}
+use Rattle.eventlog.specs.Answer.{refusal_number, Ruling, allowed, refused, ruling_of}
+use Rattle.eventlog.specs.View.{next_of, record_at, no_record}
+use Rattle.eventlog.specs.declared.Refusal.{Refusal}
+use Rattle.eventlog.specs.declared.Refusal.TheVariants.{EBADFD, EINVAL, EPIPE, EAGAIN}
 use Rattle.writes.specs.Write.{outside_record, box_record, outside_ruling, box_ruling}
 use Rattle.kmsg.specs.Read.{reader_at, AfterRead, line_at, read_ruling, stay, read_refused, read_done, read_by, seek_ruling, seek_by}
 use Rattle.history.specs.Calls.{Call, outside, box, make, place, read, seek, command, save, minimum, check, console, Reply, nobody, reply_read, reply_seek, if_there}

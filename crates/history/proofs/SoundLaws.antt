@@ -12,10 +12,10 @@ use lib.ListN.{length, length-append}
 use Rattle.console.specs.Console.{saved_fits, setting_fits}
 use Rattle.record.specs.Limits.{capacity_least, word_most, caller_most}
 use Rattle.record.specs.Record.{Record, cost}
-use Rattle.log.specs.Answer.{Ruling, allowed, refused}
-use Rattle.log.specs.View.{Marks, View, next_of}
-use Rattle.log.specs.Excess.{excess}
-use Rattle.log.proofs.ExcessLaws.{excess-some}
+use Rattle.eventlog.specs.Answer.{Ruling, allowed, refused}
+use Rattle.eventlog.specs.View.{Marks, View, next_of}
+use Rattle.eventlog.specs.Excess.{excess}
+use Rattle.eventlog.proofs.ExcessLaws.{excess-some}
 use Rattle.store.proofs.StoredLaws.{Storable, Numbered, numbered_drop, numbered_append, numbered_at}
 use Rattle.store.proofs.HoldsLaws.{goes}
 use Rattle.store.proofs.MarkLaws.{Marked, marked_grown}

@@ -12,12 +12,12 @@ use Rattle.slices.specs.Listed.{Earlier}
 use Rattle.console.specs.Console.{setting_fresh, saved_fits, setting_fits}
 use Rattle.record.specs.Limits.{payload_most, word_most}
 use Rattle.ring.specs.Ring.{unrolled}
-use Rattle.log.specs.Answer.{refusal_number, Ruling, allowed, refused, natural}
-use Rattle.log.specs.View.{View, next_of}
-use Rattle.log.specs.Check.{checked, view_of, marks_of, records_in, ruled}
-use Rattle.log.specs.declared.Verdict.TheVariants.{Fine}
-use Rattle.log.specs.declared.Refusal.{Refusal}
-use Rattle.log.specs.declared.Refusal.TheVariants.{EBADFD, EPERM, ESPIPE, EINVAL, EFAULT, EOVERFLOW, EPIPE, EAGAIN}
+use Rattle.eventlog.specs.Answer.{refusal_number, Ruling, allowed, refused, natural}
+use Rattle.eventlog.specs.View.{View, next_of}
+use Rattle.eventlog.specs.Check.{checked, view_of, marks_of, records_in, ruled}
+use Rattle.eventlog.specs.declared.Verdict.TheVariants.{Fine}
+use Rattle.eventlog.specs.declared.Refusal.{Refusal}
+use Rattle.eventlog.specs.declared.Refusal.TheVariants.{EBADFD, EPERM, ESPIPE, EINVAL, EFAULT, EOVERFLOW, EPIPE, EAGAIN}
 use Rattle.store.proofs.MarkLaws.{fine}
 use Rattle.savedtrail.specs.Save.{image_for, save_ruling, saving}
 use Rattle.writes.specs.Write.{outside_ruling, box_ruling, outside_write, box_write}

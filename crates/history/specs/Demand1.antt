@@ -4,8 +4,8 @@
 use Rattle.std.specs.Prelude.{ℕ, ◌≡◌, Bool, false, cond, List, [], ◌∷◌, map, eqb, ℤ, pos, negsuc}
 use lib.ListN
 use Rattle.slices.specs.Listed.{In}
-use Rattle.log.specs.declared.Refusal.{Refusal}
-use Rattle.log.specs.declared.Refusal.TheVariants.{EBADFD, EPERM, ESPIPE, EINVAL, EFAULT, EOVERFLOW, EPIPE, EAGAIN}
+use Rattle.eventlog.specs.declared.Refusal.{Refusal}
+use Rattle.eventlog.specs.declared.Refusal.TheVariants.{EBADFD, EPERM, ESPIPE, EINVAL, EFAULT, EOVERFLOW, EPIPE, EAGAIN}
 use Rattle.history.specs.Calls.{Call, outside, box, make, place, read, seek, command, save, minimum, check, console, Reply, wrote, made, set, gave, sought, told, verdict, shown, nobody, State, with_readers, step}
 
 -- the reply answers this number; a call that only makes a reader, sets one, checks the log or asks the console question answers none

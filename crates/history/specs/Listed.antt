@@ -7,12 +7,12 @@ use Rattle.slices.specs.Listed.{In, Exactly}
 use Rattle.record.specs.Limits.{capacity_least, capacity_most}
 use Rattle.record.specs.Dictionary.{Dictionary}
 use Rattle.record.specs.Forms.{kmsg_line}
-use Rattle.log.specs.View.{View, next_of, record_at}
-use Rattle.log.specs.Check.{checked, view_of}
-use Rattle.log.specs.Excess.{total}
-use Rattle.log.specs.declared.Verdict.TheVariants.{Fine}
-use Rattle.log.specs.declared.Refusal.{Refusal}
-use Rattle.log.specs.declared.Refusal.TheVariants.{EBADFD, EPERM, ESPIPE, EINVAL, EFAULT, EOVERFLOW, EPIPE, EAGAIN}
+use Rattle.eventlog.specs.View.{View, next_of, record_at}
+use Rattle.eventlog.specs.Check.{checked, view_of}
+use Rattle.eventlog.specs.Excess.{total}
+use Rattle.eventlog.specs.declared.Verdict.TheVariants.{Fine}
+use Rattle.eventlog.specs.declared.Refusal.{Refusal}
+use Rattle.eventlog.specs.declared.Refusal.TheVariants.{EBADFD, EPERM, ESPIPE, EINVAL, EFAULT, EOVERFLOW, EPIPE, EAGAIN}
 use Rattle.syslog.specs.declared.Asked.{Asked}
 use Rattle.history.specs.Calls.{Call, outside, box, make, place, read, seek, command, save, minimum, check, console, Reply, State, step, state_after}
 use Rattle.history.specs.Past.{held, past_after, fresh_past}

@@ -3,9 +3,9 @@ use Rattle.std.specs.Prelude.{ℕ, ◌+◌, ◌-◌, ◌<◌, ◌≤◌, ◌≡�
 use Rattle.record.specs.Limits.{capacity_least, capacity_most}
 use Rattle.record.specs.Record.{Record}
 use Rattle.record.specs.Forms.{kmsg_line}
-use Rattle.log.specs.Answer.{refusal_number}
-use Rattle.log.specs.View.{Marks, no_record}
-use Rattle.log.specs.declared.Refusal.TheVariants.{EPIPE}
+use Rattle.eventlog.specs.Answer.{refusal_number}
+use Rattle.eventlog.specs.View.{Marks, no_record}
+use Rattle.eventlog.specs.declared.Refusal.TheVariants.{EPIPE}
 use Rattle.writes.specs.FineLog.{dropped_most}
 use Rattle.kmsg.specs.Read.{reader_at, AfterRead, read_ruling, read_by, reading}
 use Rattle.syslog.specs.Command.{unread, marks_after}

@@ -3,10 +3,10 @@
 use Rattle.std.specs.Prelude.{ℕ, ◌+◌, ◌≡◌, not, ◌&&◌, List, [], ◌∷◌, ltb, eqb, ℤ, length}
 use Rattle.slices.specs.Cut.{has}
 use Rattle.record.specs.Limits.{payload_most}
-use Rattle.log.specs.Answer.{Ruling, allowed, refused, ruling_of, is, is_negative, natural}
-use Rattle.log.specs.View.{View}
-use Rattle.log.specs.Check.{view_of, ruled}
-use Rattle.log.specs.declared.Refusal.TheVariants.{EPERM, EINVAL, EFAULT, EAGAIN}
+use Rattle.eventlog.specs.Answer.{Ruling, allowed, refused, ruling_of, is, is_negative, natural}
+use Rattle.eventlog.specs.View.{View}
+use Rattle.eventlog.specs.Check.{view_of, ruled}
+use Rattle.eventlog.specs.declared.Refusal.TheVariants.{EPERM, EINVAL, EFAULT, EAGAIN}
 use Rattle.savedtrail.specs.Save.{save_ruling, save_by}
 use Rattle.writes.specs.Write.{outside_record, box_record, numbers_over, box_tests, outside_ruling, box_ruling, write_by}
 use Rattle.syslog.specs.Command.{copies, is_known, is_permitted, wants_level, unread, command_ruling, command_by, on_log}

@@ -12,9 +12,9 @@ use Rattle.slices.specs.Tests.{every}
 use Rattle.slices.proofs.Bools.{and_left, and_right, every_first, every-other}
 use Rattle.console.specs.declared.Console.{Console}
 use Rattle.record.specs.Limits.{word_most, caller_most}
-use Rattle.log.specs.View.{Marks, View}
-use Rattle.log.specs.Check.{fresh_log, marks_of, view_of}
-use Rattle.log.specs.Excess.{total}
+use Rattle.eventlog.specs.View.{Marks, View}
+use Rattle.eventlog.specs.Check.{fresh_log, marks_of, view_of}
+use Rattle.eventlog.specs.Excess.{total}
 use Rattle.store.proofs.HoldsLaws.{used-is}
 use Rattle.history.specs.Calls.{Call, outside, box, make, place, read, seek, command, save, minimum, check, console, Reply, State, step, state_after}
 use Rattle.history.specs.Past.{Past, first_held, held, past_step, past_after, fresh_past}

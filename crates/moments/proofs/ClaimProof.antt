@@ -8,9 +8,9 @@ use Rattle.record.specs.Record.{cost}
 use Rattle.record.specs.Heading.{heading_of, heading_bytes, heading_cost, heading_fits, record_heading, record_bytes}
 use Rattle.ring.specs.Ring.{unrolled, wrapped, ring_put}
 use Rattle.record.specs.Forms.{kmsg_entries, kmsg_header, kmsg_line, syslog_head, syslog_lines, syslog_form, syslog_forms}
-use Rattle.log.specs.View.{next_of, record_at}
-use Rattle.log.specs.Check.{numbers_fit, dictionary_bytes, record_fits, after, record_of, skipped, walked, records_in, offset_fits, finished, checked, marks_of, view_of, with_marks, ruled}
-use Rattle.log.specs.Excess.{excess}
+use Rattle.eventlog.specs.View.{next_of, record_at}
+use Rattle.eventlog.specs.Check.{numbers_fit, dictionary_bytes, record_fits, after, record_of, skipped, walked, records_in, offset_fits, finished, checked, marks_of, view_of, with_marks, ruled}
+use Rattle.eventlog.specs.Excess.{excess}
 use Rattle.store.specs.Write.{dropped_by, kept_by, written_log, written_buffer}
 use Rattle.front.specs.Prefix.{has_prefix, prefix_in, after_prefix, not_kernel, without_newline}
 use Rattle.savedtrail.specs.Save.{save_by, saving}

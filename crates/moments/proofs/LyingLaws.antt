@@ -14,10 +14,10 @@ use Rattle.record.specs.Heading.{record_bytes}
 use Rattle.record.proofs.HeadingLaws.{length-record_bytes}
 use Rattle.ring.specs.Ring.{wrapped, ring_put}
 use Rattle.ring.proofs.RingLaws.{wrapped_near, wrapped_far, wrapped_in, length-ring_put, ring_put-append, ring_put-place, ring_put_straight}
-use Rattle.log.specs.Answer.{Ruling, allowed, refused}
-use Rattle.log.specs.View.{View}
-use Rattle.log.specs.Check.{view_of, with_marks}
-use Rattle.log.specs.Excess.{total}
+use Rattle.eventlog.specs.Answer.{Ruling, allowed, refused}
+use Rattle.eventlog.specs.View.{View}
+use Rattle.eventlog.specs.Check.{view_of, with_marks}
+use Rattle.eventlog.specs.Excess.{total}
 use Rattle.store.specs.Write.{kept_by, written_log, written_buffer}
 use Rattle.store.proofs.StoredLaws.{Storable}
 use Rattle.store.proofs.HoldsLaws.{grown, used-is, holds_written}

@@ -3,7 +3,7 @@ use Rattle.std.specs.Prelude.{ℕ, true, false, List, [], ◌∷◌, ◌++◌, p
 use Rattle.slices.specs.Quoted.{quoted}
 use Rattle.console.specs.Console.{setting_fresh}
 use Rattle.console.specs.declared.Saved.TheVariants.{Nothing}
-use Rattle.log.specs.declared.Verdict.TheVariants.{Fine, Heading}
+use Rattle.eventlog.specs.declared.Verdict.TheVariants.{Fine, Heading}
 use Rattle.history.specs.Calls.{outside, box, make, read, seek, check, State, wrote, made, gave, sought, told, verdict}
 use Rattle.moments.specs.Case.{◌gives◌, new, hand, Calls, Leaves, Case, calls, leaves, minus, blank, asked}
 

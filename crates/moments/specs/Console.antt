@@ -2,7 +2,7 @@
 use Rattle.std.specs.Prelude.{ℕ, true, List, [], ◌∷◌, ℤ, pos}
 use Rattle.console.specs.declared.Saved.{Saved}
 use Rattle.console.specs.declared.Saved.TheVariants.{Nothing, Level}
-use Rattle.log.specs.declared.Verdict.TheVariants.{Fine, Numbers}
+use Rattle.eventlog.specs.declared.Verdict.TheVariants.{Fine, Numbers}
 use Rattle.history.specs.Calls.{read, seek, save, minimum, check, State, wrote, gave, sought, told, verdict}
 use Rattle.moments.specs.Case.{outside, box, ◌gives◌, hand, Calls, Change, change, setting, Case, calls, changes, minus, blank, asked, poor}
 

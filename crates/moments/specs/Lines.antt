@@ -2,8 +2,8 @@
 use Rattle.std.specs.Prelude.{ℕ, zero, suc, List, [], ◌∷◌, ◌++◌, ℤ, pos, replicate}
 use Rattle.slices.specs.Quoted.{quoted}
 use Rattle.console.specs.Console.{setting_fresh}
-use Rattle.log.specs.declared.Verdict.{Verdict}
-use Rattle.log.specs.declared.Verdict.TheVariants.{Fine, Numbers}
+use Rattle.eventlog.specs.declared.Verdict.{Verdict}
+use Rattle.eventlog.specs.declared.Verdict.TheVariants.{Fine, Numbers}
 use Rattle.history.specs.Calls.{make, read, check, State, wrote, made, gave, told, verdict}
 use Rattle.moments.specs.Case.{outside, box, ◌gives◌, new, hand, Calls, calls_of, Case, calls, minus, blank, asked}
 

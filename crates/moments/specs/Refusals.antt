@@ -3,7 +3,7 @@
 use Rattle.std.specs.Prelude.{ℕ, true, false, List, [], ◌∷◌, ◌++◌, pos, replicate, set as set_at}
 use Rattle.slices.specs.Quoted.{quoted}
 use Rattle.console.specs.declared.Saved.TheVariants.{Nothing}
-use Rattle.log.specs.declared.Verdict.TheVariants.{Fine, Numbers, Heading}
+use Rattle.eventlog.specs.declared.Verdict.TheVariants.{Fine, Numbers, Heading}
 use Rattle.history.specs.Calls.{make, place, read, seek, command, check, State, wrote, made, set, gave, sought, told, verdict, nobody}
 use Rattle.board.specs.Board.{fresh, empty_slot, state}
 use Rattle.board.specs.Board.{State as Board}

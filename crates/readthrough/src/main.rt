@@ -5,7 +5,7 @@ mod tally;
 
 use kmsg::Reader;
 use libc::{STDIN_FILENO, STDOUT_FILENO};
-use log::{Answer, Log};
+use eventlog::{Answer, Log};
 use number::Decimal;
 use record::Heading;
 use slices::Found;

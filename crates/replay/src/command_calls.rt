@@ -2,7 +2,7 @@
 // change.
 use crate::state;
 use crate::state::{Called, LogCalled, State};
-use log::Log;
+use eventlog::Log;
 use script::answers::Told;
 use script::words::Words;
 use script::{decimals, lent, words};

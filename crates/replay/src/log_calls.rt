@@ -2,7 +2,7 @@
 use crate::state;
 use crate::state::{Called, State};
 use console::{Console, Saved};
-use log::{Log, Verdict};
+use eventlog::{Log, Verdict};
 use record::Seq;
 use ring::Place;
 use script::answers::Told;
@@ -82,7 +82,7 @@ fn verdict_told(verdict: Verdict) -> Told {
 }
 
 fn check(log: Log, ring: &[u8]) -> Told {
-    verdict_told(log::check(log, ring))
+    verdict_told(eventlog::check(log, ring))
 }
 
 // The saved level as the last number, or that there is none.

@@ -2,7 +2,7 @@
 use crate::state;
 use crate::state::{Called, State};
 use kmsg::{Given, Reader, Sought};
-use log::Log;
+use eventlog::Log;
 use record::Seq;
 use script::answers::Told;
 use script::words::Words;

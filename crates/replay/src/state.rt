@@ -1,7 +1,7 @@
 // What a rehearsal keeps from line to line beside its buffers.
 use board::Board;
 use joiner::Joiner;
-use log::{Answer, Log};
+use eventlog::{Answer, Log};
 use savedtrail::Reader;
 use script::answers::Told;
 
@@ -124,7 +124,7 @@ pub fn with_joiner(state: State, called: JoinerCalled) -> Called {
 
 // What an answer of the log tells.
 pub fn answered(answer: Answer) -> Told {
-    Told::signed(log::answer_number(answer))
+    Told::signed(eventlog::answer_number(answer))
 }
 
 // How many bytes of a lent buffer an answer of the log counts.

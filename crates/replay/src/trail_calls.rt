@@ -2,7 +2,7 @@
 use crate::state;
 use crate::state::{Called, State};
 use image::{Ending, Fault};
-use log::Answer;
+use eventlog::Answer;
 use record::Heading;
 use savedtrail::{Handed, Reader};
 use script::answers::Told;

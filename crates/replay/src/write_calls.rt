@@ -1,7 +1,7 @@
 // The script's writes, from outside and from the box.
 use crate::state;
 use crate::state::{Called, LogCalled, State};
-use log::{Answer, Log};
+use eventlog::{Answer, Log};
 use script::lent::Space;
 use script::words::{Bytes, Words};
 use script::{decimals, lent, words};

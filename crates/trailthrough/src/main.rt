@@ -6,7 +6,7 @@
 mod tally;
 
 use libc::{STDIN_FILENO, STDOUT_FILENO};
-use log::{Answer, Log};
+use eventlog::{Answer, Log};
 use number::Decimal;
 use record::Heading;
 use savedtrail::{Reader, Told};

@@ -4,7 +4,7 @@
 // Standard input is two numbers parted by a space and ended by a newline, the log's capacity and how often the message is written; then the message.
 use kmsg::Reader;
 use libc::{STDIN_FILENO, STDOUT_FILENO};
-use log::{Answer, Log};
+use eventlog::{Answer, Log};
 use number::Decimal;
 use record::Heading;
 use slices::Found;
