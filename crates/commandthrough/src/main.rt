@@ -3,8 +3,10 @@
 //
 // Standard input is six numbers parted by single spaces and ended by a newline: the bytes of text in each record, after how many of them each is a newline (0: none
 // is), the log's capacity; the command's type, its len, and how often it is asked.
-use libc::{STDIN_FILENO, STDOUT_FILENO};
+#![tactic(auto)]
+
 use eventlog::{Answer, Log};
+use libc::{STDIN_FILENO, STDOUT_FILENO};
 use number::Decimal;
 use record::Heading;
 use slices::Found;
@@ -32,28 +34,28 @@ const CALLER: u32 = 4711;
 const APART: u64 = 1000999;
 
 // A number that was read, and the place behind the byte that ends it.
-#[derive(Drop)]
+#[derive(Clone, Copy)]
 enum Read {
     Number(u64, usize),
     Nothing,
 }
 
 // How the log is filled: the bytes of text, after how many a newline, the capacity; and the place behind what says so.
-#[derive(Drop)]
+#[derive(Clone, Copy)]
 enum Filling {
     Records(usize, usize, usize, usize),
     Nothing,
 }
 
 // What is asked of it: type, len, and how often.
-#[derive(Drop)]
+#[derive(Clone, Copy)]
 enum Calling {
     Command(i32, i32, u64),
     Nothing,
 }
 
 // What the commands told: the sum of their answers, and the log's numbers after the last.
-#[derive(Drop)]
+#[derive(Clone, Copy)]
 struct Told {
     answered: u64,
     log: Log,

@@ -1,4 +1,6 @@
 // The CRC-32 of IEEE 802.3, eight bytes in a turn: each half byte is looked up in a table of sixteen.
+#![tactic(auto)]
+
 ghost use Rattle.std.specs.Prelude.{◌≡◌, ◌+◌, ◌*◌, ◌≤◌, ◌<◌, length, drop};
 ghost use Rattle.crc.specs.Crc.{ones, on_byte, on_bytes, crc32};
 ghost use Rattle.crc.specs.Words.{pair, four};

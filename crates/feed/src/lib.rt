@@ -1,4 +1,6 @@
 // A feed of messages: grouped, delivered to a board, and printed. The receiver program is one call of it.
+#![tactic(auto)]
+
 ghost use Rattle.std.specs.Prelude.{◌≡◌, ◌+◌, ◌*◌, ◌≤◌, ◌<◌, length, take, drop};
 ghost use Rattle.slices.specs.Put.{left, placed};
 ghost use Rattle.escape.specs.Answers.{Written};
@@ -16,7 +18,7 @@ use slices::Placed;
 const FIRST: usize = Board::FIRST as usize;
 
 // A board that was fed, and how many messages it refused.
-#[derive(Drop)]
+#[derive(Clone, Copy)]
 pub struct Received {
     pub board: Board,
     pub refused: u64,

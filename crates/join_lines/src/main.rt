@@ -1,4 +1,6 @@
 // The program `join_lines` (document 02, ticket 6): the messages of standard input joined, and each text that is given as a line.
+#![tactic(auto)]
+
 use feed::Received;
 use joiner::Joiner;
 use libc::{STDIN_FILENO, STDOUT_FILENO};

@@ -1,4 +1,6 @@
 // The program `join_lines` (document 02, ticket 6): messages joined, and each text that is given written as a line.
+#![tactic(auto)]
+
 ghost use Rattle.std.specs.Prelude.{◌≡◌, ◌+◌, ◌≤◌, length, take, drop};
 ghost use Rattle.escape.specs.Answers.{Written};
 ghost use Rattle.feed.specs.Feed.{messages};
@@ -20,7 +22,7 @@ pub const OUTPUT: usize = 4 * Received::INPUT + 8 + 20 + 1;
 const CLOSES: usize = Place::CHANNELS;
 
 // The joiner, how many messages it refused, and the place behind the lines written.
-#[derive(Drop)]
+#[derive(Clone, Copy)]
 struct Progress {
     joiner: Joiner,
     refused: u64,

@@ -3,6 +3,8 @@
 //
 // Standard input is three numbers parted by single spaces and ended by a newline: the bytes of each message; the place, in a message, behind the digit of its
 // number that is raised by one after each call (0: none is); how often a message is handed over. Then the messages, which are taken in turn.
+#![tactic(auto)]
+
 use joiner::{Answer, Joiner, Text};
 use libc::{STDIN_FILENO, STDOUT_FILENO};
 use number::Decimal;
@@ -15,14 +17,14 @@ const INPUT: usize = 16384;
 const TIMES_MOST: u64 = 4294967295;
 
 // A number that was read, and the place behind the byte that ends it.
-#[derive(Drop)]
+#[derive(Clone, Copy)]
 enum Read {
     Number(u64, usize),
     Nothing,
 }
 
 // What is asked for: a message's bytes, the place behind the digit to be raised, and how often.
-#[derive(Drop)]
+#[derive(Clone, Copy)]
 struct Feeding {
     size: usize,
     digit: usize,
@@ -30,14 +32,14 @@ struct Feeding {
 }
 
 // What is asked for, and the place where the messages begin.
-#[derive(Drop)]
+#[derive(Clone, Copy)]
 enum Asked {
     Feed(Feeding, usize),
     Nothing,
 }
 
 // What was given: texts and their bytes, the sum of each text's facility and last byte; and the refusals, with the sum of their numbers.
-#[derive(Drop)]
+#[derive(Clone, Copy)]
 struct Tally {
     texts: u64,
     bytes: u64,
@@ -47,7 +49,7 @@ struct Tally {
 }
 
 // The joiner after some messages, and what they gave.
-#[derive(Drop)]
+#[derive(Clone, Copy)]
 struct SoFar {
     joiner: Joiner,
     tally: Tally,

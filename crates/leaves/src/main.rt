@@ -1,4 +1,6 @@
 // Runs the leaf crates' worked cases of document 01 on the real calls and writes what they answer. The file stdout beside src/ has what they should.
+#![tactic(auto)]
+
 mod crcs;
 mod decimals;
 mod escapes;

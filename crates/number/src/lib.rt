@@ -1,4 +1,6 @@
 // Plain decimal and little-endian numbers, both ways.
+#![tactic(auto)]
+
 ghost use Rattle.std.specs.Prelude.{◌≡◌, true, cond, ◌+◌, ◌-◌, ◌*◌, ◌/◌, ◌%◌, ◌^◌, ◌≤◌, ◌<◌, ltb, length, drop};
 ghost use Rattle.slices.specs.Put.{put, left, placed};
 ghost use Rattle.number.specs.Decimal.{decimal, two_digits, decimal_up_to, is_digit, all_digits, no_leading_zero};
@@ -7,7 +9,7 @@ ghost use Rattle.number.specs.LittleEndian.{little_endian, loaded};
 use slices::Placed;
 
 // What a run of bytes says as plain decimal: a number up to a bound; no plain decimal; or a number above the bound.
-#[derive(Drop)]
+#[derive(Clone, Copy)]
 pub enum Decimal {
     Value(u64),
     NotPlain,
@@ -15,7 +17,7 @@ pub enum Decimal {
 }
 
 // The number at a place, or that it doesn't lie inside.
-#[derive(Drop)]
+#[derive(Clone, Copy)]
 pub enum Loaded {
     Number(u64),
     Outside,

@@ -3,6 +3,8 @@
 //
 // Standard input is numbers, each ended by a newline: what is printed (1: numbers, 4: headers of lines), how often, and then the numbers themselves. Those of
 // headers go by fours: prefix, sequence number, time in nanoseconds, caller.
+#![tactic(auto)]
+
 mod header;
 
 use libc::{STDIN_FILENO, STDOUT_FILENO};
@@ -22,21 +24,21 @@ const TIMES_MOST: u64 = 100000000;
 const PRINTED: usize = 262144;
 
 // A number that was read, and the place behind its newline.
-#[derive(Drop)]
+#[derive(Clone, Copy)]
 enum Read {
     Number(u64, usize),
     Nothing,
 }
 
 // How many numbers were read.
-#[derive(Drop)]
+#[derive(Clone, Copy)]
 enum Count {
     Numbers(usize),
     Nothing,
 }
 
 // What is asked for: headers, or else numbers.
-#[derive(Drop)]
+#[derive(Clone, Copy)]
 enum Asked {
     Headers(bool),
     Nothing,

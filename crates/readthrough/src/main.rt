@@ -1,11 +1,13 @@
 // A full log read through: how many records and bytes of lines, and a checksum of them. bench/ has a plain program that does the same, and times both.
 //
 // Standard input is two numbers parted by a space and ended by a newline: the bytes of text in each record, and how often the log is read.
+#![tactic(auto)]
+
 mod tally;
 
+use eventlog::{Answer, Log};
 use kmsg::Reader;
 use libc::{STDIN_FILENO, STDOUT_FILENO};
-use eventlog::{Answer, Log};
 use number::Decimal;
 use record::Heading;
 use slices::Found;
@@ -27,7 +29,7 @@ const CALLER: u32 = 4711;
 const APART: u64 = 1000999;
 
 // What is asked for.
-#[derive(Drop)]
+#[derive(Clone, Copy)]
 enum Asked {
     Records(usize, u64),
     Nothing,

@@ -1,4 +1,6 @@
 // The receiver program (document 01, "The receiving end"): standard input fed to a board, and what the board then shows.
+#![tactic(auto)]
+
 ghost use Rattle.std.specs.Prelude.{◌≡◌, ◌≤◌, length, take};
 ghost use Rattle.feed.specs.Feed.{output};
 ghost use Rattle.feed.specs.Longest.{report_most};

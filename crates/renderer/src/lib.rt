@@ -1,4 +1,6 @@
 // The two calls that a renderer in C makes, as one static library. include/kmsg_renderer.h declares them for C.
+#![tactic(auto)]
+
 ghost use Rattle.std.specs.Prelude.{◌≡◌};
 ghost use Rattle.message.specs.Line.{line, read_line};
 ghost use Rattle.console.specs.Console.{goes_to_console};

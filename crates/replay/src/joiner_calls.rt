@@ -22,7 +22,7 @@ pub fn fresh(state: State, words: Words, texts: &mut Texts) -> Called {
 // ---- what a message may change
 
 // Bytes of the texts' buffer: so many from a place on.
-#[derive(Drop)]
+#[derive(Clone, Copy)]
 struct Stretch {
     from: usize,
     size: usize,

@@ -1,4 +1,6 @@
 // The rehearsal tool: a script of calls on standard input, and one line of answer for each on standard output.
+#![tactic(auto)]
+
 mod board_calls;
 mod command_calls;
 mod joiner_calls;

@@ -1,8 +1,8 @@
 // The script's readers. The log's buffer is lent to these as one that none of them can change.
 use crate::state;
 use crate::state::{Called, State};
-use kmsg::{Given, Reader, Sought};
 use eventlog::Log;
+use kmsg::{Given, Reader, Sought};
 use record::Seq;
 use script::answers::Told;
 use script::words::Words;
@@ -11,7 +11,7 @@ use script::{decimals, lent, words};
 const MOST: usize = 16;
 
 // What a call on a reader leaves, and tells.
-#[derive(Drop)]
+#[derive(Clone, Copy)]
 struct ReaderCalled {
     reader: Reader,
     told: Told,

@@ -1,11 +1,11 @@
 // What a rehearsal keeps from line to line beside its buffers.
 use board::Board;
-use joiner::Joiner;
 use eventlog::{Answer, Log};
+use joiner::Joiner;
 use savedtrail::Reader;
 use script::answers::Told;
 
-#[derive(Drop)]
+#[derive(Clone, Copy)]
 pub struct State {
     // a log was made, in a buffer of so many bytes
     pub has_log: bool,
@@ -31,25 +31,25 @@ pub struct State {
 }
 
 // What a call leaves, and what it tells: of the whole state, or of the log, the board or the joiner alone.
-#[derive(Drop)]
+#[derive(Clone, Copy)]
 pub struct Called {
     pub state: State,
     pub told: Told,
 }
 
-#[derive(Drop)]
+#[derive(Clone, Copy)]
 pub struct LogCalled {
     pub log: Log,
     pub told: Told,
 }
 
-#[derive(Drop)]
+#[derive(Clone, Copy)]
 pub struct BoardCalled {
     pub board: Board,
     pub told: Told,
 }
 
-#[derive(Drop)]
+#[derive(Clone, Copy)]
 pub struct JoinerCalled {
     pub joiner: Joiner,
     pub told: Told,

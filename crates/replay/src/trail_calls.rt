@@ -1,8 +1,8 @@
 // The saved trails of a rehearsal: the image that a save left, the file that it is cut into, and the reader of that file.
 use crate::state;
 use crate::state::{Called, State};
-use image::{Ending, Fault};
 use eventlog::Answer;
+use image::{Ending, Fault};
 use record::Heading;
 use savedtrail::{Handed, Reader};
 use script::answers::Told;

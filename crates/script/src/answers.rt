@@ -8,7 +8,7 @@ const WORDS: usize = 16;
 
 // What a call tells: which form of its answer is meant; its numbers, in the form's order, and whether the first is negative; where its bytes begin and
 // end in the space, which are those of the lent buffer that it counts; and whether every other byte stayed that should have.
-#[derive(Drop)]
+#[derive(Clone, Copy)]
 pub struct Told {
     pub meant: usize,
     pub negative: bool,

@@ -7,7 +7,7 @@ pub const WORD_MOST: u64 = 18446744073709551615;
 
 pub const I64_MOST: u64 = 9223372036854775807;
 
-#[derive(Drop)]
+#[derive(Clone, Copy)]
 pub enum Num {
     Value(u64),
     No,

@@ -5,7 +5,7 @@ use crate::words::Bytes;
 use crate::{answers, lent};
 
 // Where the bytes end that a word spells.
-#[derive(Drop)]
+#[derive(Clone, Copy)]
 pub enum Hex {
     End(usize),
     No,
@@ -20,7 +20,7 @@ fn is_dash(word: &[u8]) -> bool {
 }
 
 // The byte that two characters spell.
-#[derive(Drop)]
+#[derive(Clone, Copy)]
 enum Pair {
     Byte(u8),
     No,

@@ -12,14 +12,14 @@ pub type Line = [u8; 40001];
 pub type Chunk = [u8; 65536];
 
 // Where the bytes of the chunk lie that no line has taken yet.
-#[derive(Drop)]
+#[derive(Clone, Copy)]
 pub struct Unread {
     pub from: usize,
     pub to: usize,
 }
 
 // A line that was taken: how many bytes it has, one more than the longest where it has more; and whether the input ended there.
-#[derive(Drop)]
+#[derive(Clone, Copy)]
 pub struct Taken {
     pub length: usize,
     pub ended: bool,

@@ -1,4 +1,6 @@
 // The rehearsal tool's script: its lines read into words, and its answers written.
+#![tactic(auto)]
+
 pub mod answers;
 pub mod decimals;
 mod hex;

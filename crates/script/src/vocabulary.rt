@@ -62,7 +62,7 @@ pub const ROWS: [u8; 1209] = *b"f0 log #70000 #255=log\n\
 const ROWS_MOST: usize = 128;
 
 // What a line says, if it fits a row.
-#[derive(Drop)]
+#[derive(Clone, Copy)]
 pub enum Reading {
     Words(Words),
     No,

@@ -10,7 +10,7 @@ pub type Bytes = [u8; 20000];
 pub const MOST: usize = 8;
 
 // What a word says: a number, and 1 where it is negative; or where its bytes begin and end.
-#[derive(Drop)]
+#[derive(Clone, Copy)]
 pub struct Value {
     pub n: u64,
     pub m: u64,
@@ -18,7 +18,7 @@ pub struct Value {
 
 // The line's row, where the forms of its answer begin and end in the vocabulary, how many bytes its words spell, how long a buffer it lends; and what
 // each word behind the name says.
-#[derive(Drop)]
+#[derive(Clone, Copy)]
 pub struct Words {
     pub family: u8,
     pub row: u8,
@@ -36,7 +36,7 @@ pub struct Words {
 }
 
 // A word: what it says, or that it is not what is wanted.
-#[derive(Drop)]
+#[derive(Clone, Copy)]
 pub enum Word {
     Fits(Value),
     No,

@@ -1,4 +1,6 @@
 // Parts of a slice of bytes: where a byte stands first, what stands before it and past it, and bytes put into a buffer.
+#![tactic(auto)]
+
 ghost use Rattle.std.specs.Prelude.{◌≡◌, true, false, suc, ◌+◌, ◌-◌, ◌≤◌, leb, length, take, drop};
 ghost use Rattle.slices.specs.Cut.{has, before, place, occurrences};
 ghost use Rattle.slices.specs.Put.{left, placed};
@@ -10,14 +12,14 @@ const STRIDE: usize = 16;
 const BLOCK: usize = 192;
 
 // Where a byte stands first.
-#[derive(Drop)]
+#[derive(Clone, Copy)]
 pub enum Found {
     At(usize),
     Nowhere,
 }
 
 // What putting bytes into a buffer answers: the place behind them, or that there was no room.
-#[derive(Drop)]
+#[derive(Clone, Copy)]
 pub enum Placed {
     End(usize),
     NoRoom,

@@ -7,7 +7,7 @@ use libc::STDIN_FILENO;
 use slices::Placed;
 
 // What was read: how many bytes, and whether a read failed behind them.
-#[derive(Drop)]
+#[derive(Clone, Copy)]
 pub struct Input {
     pub length: usize,
     pub failed: bool,

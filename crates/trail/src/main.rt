@@ -1,5 +1,7 @@
 // A saved trail printed (document 02, tickets 3 and 7): an image of either edition on standard input, the kmsg line of each of its records on standard
 // output, and behind them in words how the trail ended.
+#![tactic(auto)]
+
 mod ending;
 mod input;
 mod records;

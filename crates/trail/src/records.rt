@@ -10,21 +10,21 @@ pub type Result = [u8; Reader::RESULT_LEAST];
 pub type Line = [u8; Heading::LINE_MOST];
 
 // What became of the printing: how many lines were written, the edition that the trail was read in, and how it ended; or that a line could not be written.
-#[derive(Drop)]
+#[derive(Clone, Copy)]
 pub struct Printed {
     pub records: u64,
     pub edition: u16,
     pub how: How,
 }
 
-#[derive(Drop)]
+#[derive(Clone, Copy)]
 pub enum How {
     Ended(Ending),
     Unwritten,
 }
 
 // What a call of the reader led to.
-#[derive(Drop)]
+#[derive(Clone, Copy)]
 enum Step {
     Line,
     Over(How),

@@ -3,10 +3,12 @@
 //
 // Standard input is four numbers, each ended by a newline: the log's capacity, the bytes of text in each record, how often the log is saved and how often the
 // image is read. Once more of each comes at the end, for the checksums.
+#![tactic(auto)]
+
 mod tally;
 
-use libc::{STDIN_FILENO, STDOUT_FILENO};
 use eventlog::{Answer, Log};
+use libc::{STDIN_FILENO, STDOUT_FILENO};
 use number::Decimal;
 use record::Heading;
 use savedtrail::{Reader, Told};
@@ -30,14 +32,14 @@ const CALLER: u32 = 4711;
 const APART: u64 = 1000999;
 
 // A number that was read, and the place behind its newline.
-#[derive(Drop)]
+#[derive(Clone, Copy)]
 enum Read {
     Number(u64, usize),
     Nothing,
 }
 
 // What is asked for: the capacity, the bytes of text, how often saved, how often read.
-#[derive(Drop)]
+#[derive(Clone, Copy)]
 enum Asked {
     Trail(usize, usize, u64, u64),
     Nothing,

@@ -4,7 +4,7 @@ use record::Heading;
 use std::num::wrapping_add_u64;
 
 // How many records and bytes of text and dictionary, and the sum of the times and of each record's last byte.
-#[derive(Drop)]
+#[derive(Clone, Copy)]
 pub struct Tally {
     pub records: u64,
     pub bytes: u64,
@@ -12,7 +12,7 @@ pub struct Tally {
 }
 
 // How many bytes, the sum of them, and the sum of what that was after each byte.
-#[derive(Drop)]
+#[derive(Clone, Copy)]
 pub struct Sum {
     pub bytes: u64,
     pub plain: u64,

@@ -2,9 +2,11 @@
 // oldest line that it holds. bench/ has a plain program that does the same, and times both.
 //
 // Standard input is two numbers parted by a space and ended by a newline, the log's capacity and how often the message is written; then the message.
+#![tactic(auto)]
+
+use eventlog::{Answer, Log};
 use kmsg::Reader;
 use libc::{STDIN_FILENO, STDOUT_FILENO};
-use eventlog::{Answer, Log};
 use number::Decimal;
 use record::Heading;
 use slices::Found;
@@ -18,14 +20,14 @@ const TIMES_MOST: u64 = 100000000;
 const CALLER: u32 = 4711;
 
 // What is asked for: the capacity, and how often.
-#[derive(Drop)]
+#[derive(Clone, Copy)]
 enum Asked {
     Writes(usize, u64),
     Nothing,
 }
 
 // What the writes told.
-#[derive(Drop)]
+#[derive(Clone, Copy)]
 struct Told {
     answered: u64,
     dropped: u64,
