@@ -1,0 +1,26 @@
+-- `number::read_long` meets its contract: what is left, after what was read, says what the whole says.
+use Prim.Native.Nat.{◌-◌, ◌≤◌}
+use native.Mathlib.Omega.{arith}
+use mathlib.Core.Path.{◌∙◌}
+use lib.ListN.{length, get_or}
+use borrow.Author.Rules.{rules}
+use Rattle.number.proofs.ReadLaws.{Digit, digit-told, Reading, read_begin, read-on, read_off, read-over, read-value}
+use Rattle.number.proofs.read_long.Goals.{Else-not-is_digit}
+use Rattle.number.proofs.read_long.Goals as goal
+
+digit : (c : Else-not-is_digit)
+    → Digit (get_or c.args.s.now c.loop-i.i 0)
+digit c = digit-told c.is_digit.ensures c.if-not-is_digit.false-raw
+
+pub loop-i-init : goal.loop-i-init
+loop-i-init c = (read_begin c.requires, omega arith)
+
+pub returns-then-tenth-n : goal.returns-then-tenth-n
+returns-then-tenth-n c =
+    c.above.ensures
+    ∙ read-over c.loop-i.invariant.0 (omega arith) (digit (goal.at.returns-then-tenth-n c).Else-not-is_digit) (omega arith)
+
+pub returns-then-most-n : goal.returns-then-most-n
+returns-then-most-n c =
+    c.above-then-most-n.ensures
+    ∙ read-over c.loop-i.invariant.0 (omega arith) (digit (goal.at.returns-then-most-n c).Else-not-is_digit) (omega arith)

@@ -1,0 +1,14 @@
+-- `number::read_long` meets its contract: what is left, after what was read, says what the whole says.
+use Prim.Native.Nat.{◌-◌, ◌≤◌}
+use native.Mathlib.Omega.{arith}
+use mathlib.Core.Path.{◌∙◌}
+use lib.ListN.{length, get_or}
+use borrow.Author.Rules.{rules}
+use Rattle.number.proofs.ReadLaws.{Digit, digit-told, Reading, read_begin, read-on, read_off, read-over, read-value}
+use Rattle.number.proofs.read_long.Given as goal
+
+abbrev pub invariant-loop-i : goal.invariant-loop-i
+invariant-loop-i l = Reading l.most l.s l.n l.i × (l.n ≤ l.most)
+
+abbrev pub decreases-loop-i : goal.decreases-loop-i
+decreases-loop-i l = length l.s - l.i

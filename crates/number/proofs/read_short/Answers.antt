@@ -1,0 +1,21 @@
+-- `number::read_short` meets its contract: what is left, after what was read, says what the whole says.
+use Prim.Native.Nat.{◌-◌}
+use native.Mathlib.Omega.{arith}
+use lib.ListN.{length, get_or}
+use borrow.Author.Rules.{rules}
+use Rattle.number.proofs.ReadLaws.{Digit, digit-told, Short, short_begin, short-room, short_on, read_off, read-value, read_above}
+use Rattle.number.proofs.read_short.Goals.{Else-not-is_digit}
+use Rattle.number.proofs.read_short.Goals as goal
+
+digit : (c : Else-not-is_digit)
+    → Digit (get_or c.args.s.now c.loop-i.i 0)
+digit c = digit-told c.is_digit.ensures c.if-not-is_digit.false-raw
+
+pub loop-i-init : goal.loop-i-init
+loop-i-init c = short_begin c.requires.0 c.requires.1
+
+pub overflow_mul-n : goal.overflow_mul-n
+overflow_mul-n c = omega (arith, short-room c.loop-i.invariant (omega arith))
+
+pub overflow_add-n : goal.overflow_add-n
+overflow_add-n c = omega (arith, digit (goal.at.overflow_add-n c).Else-not-is_digit, short-room c.loop-i.invariant (omega arith))
