@@ -1,9 +1,7 @@
 -- `number::above` meets its contract: the bytes that are left are digits exactly if all are.
 use Prim.Native.Nat.{◌-◌}
-use native.Mathlib.Omega.{arith}
 use lib.ListN.{length}
-use borrow.Author.Rules.{rules}
-use Rattle.number.proofs.ReadLaws.{digit-told, Scanning, scan_begin, scan_on, scan_off, scan_end}
+use Rattle.number.proofs.ReadLaws.{Scanning}
 use Rattle.number.proofs.above.Given as goal
 
 abbrev pub invariant-loop-i : goal.invariant-loop-i

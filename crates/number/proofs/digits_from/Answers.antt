@@ -3,7 +3,6 @@ use Prim.Native.Nat.{ℕ, ◌*◌, ◌^◌, ◌≤◌, ◌<◌}
 use mathlib.Core.Path.{◌≡◌}
 use native.Mathlib.Omega.{arith}
 use native.Mathlib.Nat.{pow-le-pow_right}
-use borrow.Author.Rules.{rules}
 use Rattle.number.proofs.PrintLaws.{count_three}
 use Rattle.number.proofs.digits_from.Goals as goal
 
@@ -14,14 +13,14 @@ small k power e h =
     omega (arith, e)
 
 pub overflow_mul-power : goal.overflow_mul-power
-overflow_mul-power c = omega (arith, small c.args.digits c.args.power c.requires.1.0 c.requires.1.2)
+overflow_mul-power c = omega (arith, small c.args.digits c.args.power c.requires.fact_2.0 c.requires.fact_2.2)
 
 pub overflow_mul-power-2 : goal.overflow_mul-power-2
-overflow_mul-power-2 c = omega (arith, small c.args.digits c.args.power c.requires.1.0 c.requires.1.2)
+overflow_mul-power-2 c = omega (arith, small c.args.digits c.args.power c.requires.fact_2.0 c.requires.fact_2.2)
 
 pub returns : goal.returns
 returns c =
     let a = c.args in
     let p = c.requires in
     rw (c.reached.ensures.0, c.reached-2.ensures.0, c.reached-3.ensures.0)
-    (count_three a.digits a.value a.power p.1.1 p.1.0 p.0.0 p.0.1)
+    (count_three a.digits a.value a.power p.fact_2.1 p.fact_2.0 p.fact_1.0 p.fact_1.1)

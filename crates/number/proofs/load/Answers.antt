@@ -1,11 +1,9 @@
 -- `number::load` meets its contract: the bytes read so far are a number of that width.
-use Prim.Native.Nat.{◌+◌, ◌-◌, ◌<◌}
+use Prim.Native.Nat.{◌+◌, ◌<◌}
 use native.Mathlib.Omega.{arith}
 use lib.ListN.{get_or}
-use borrow.Author.Rules.{rules}
-use borrow.Author.Tests.{not-true, not-false}
-use Rattle.slices.proofs.PutLaws.{some-room}
-use Rattle.number.proofs.WidthLaws.{outside, Loading, load_begin, load_on, load_end, load_word}
+use borrow.Author.Tests.{not-true}
+use Rattle.number.proofs.WidthLaws.{outside, load_on, load_end, load_word}
 use Rattle.number.proofs.load.Goals.{After-shared_slice_known-in-loop-i-1}
 use Rattle.number.proofs.load.Goals as goal
 
@@ -18,11 +16,11 @@ returns-then-not-has_room c =
     let a = c.args in
     outside a.width a.s.now a.at c.has_room.ensures (not-true _ c.if-not-has_room.true-raw)
 
-pub overflow_add-n-in-loop-i : goal.overflow_add-n-in-loop-i
-overflow_add-n-in-loop-i c = record { fits = load_word (loop-i-preserved c) }
-
 pub loop-i-preserved : goal.loop-i-preserved
 loop-i-preserved c = load_on c.loop-i.invariant (omega arith) (byte (goal.at.loop-i-preserved c).After-shared_slice_known-in-loop-i-1)
+
+pub overflow_add-n-in-loop-i : goal.overflow_add-n-in-loop-i
+overflow_add-n-in-loop-i c = record { fits = load_word (loop-i-preserved c) }
 
 pub returns : goal.returns
 returns c = load_end c.loop-i.invariant (omega arith)

@@ -1,11 +1,6 @@
 -- `number::load` meets its contract: the bytes read so far are a number of that width.
-use Prim.Native.Nat.{◌+◌, ◌-◌, ◌<◌}
-use native.Mathlib.Omega.{arith}
-use lib.ListN.{get_or}
-use borrow.Author.Rules.{rules}
-use borrow.Author.Tests.{not-true, not-false}
-use Rattle.slices.proofs.PutLaws.{some-room}
-use Rattle.number.proofs.WidthLaws.{outside, Loading, load_begin, load_on, load_end, load_word}
+use Prim.Native.Nat.{◌-◌}
+use Rattle.number.proofs.WidthLaws.{Loading}
 use Rattle.number.proofs.load.Given as goal
 
 abbrev pub invariant-loop-i : goal.invariant-loop-i

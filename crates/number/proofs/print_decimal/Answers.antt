@@ -1,12 +1,10 @@
 -- `number::print_decimal` meets its contract: counted, room asked for, and written.
 use Prim.Native.Nat.{◌+◌, ◌≤◌}
 use native.Mathlib.Omega.{arith}
-use borrow.Author.Rules.{rules}
 use borrow.Author.Tests.{not-true, not-false}
 use lib.ListN.{length}
 use Rattle.slices.proofs.PutLaws.{placed-room, no_room-counted, some-room}
 use Rattle.number.specs.Decimal.{decimal}
-use Rattle.number.proofs.PrintLaws.{put_keeps}
 use Rattle.number.proofs.print_decimal.Goals.{After-write_decimal-arg-1}
 use Rattle.number.proofs.print_decimal.Goals as goal
 

@@ -1,8 +1,6 @@
 -- `number::print_digit` meets its contract: a number below ten is one digit.
 use Prim.Native.Nat.{◌+◌, ◌≤◌}
 use mathlib.Core.List.{[], ◌∷◌}
-use native.Mathlib.Omega.{arith}
-use borrow.Author.Rules.{rules}
 use borrow.Author.Tests.{not-true, not-false}
 use lib.ListN.{length}
 use Rattle.slices.proofs.PutLaws.{sets-put, placed-room, no_room, some-room}

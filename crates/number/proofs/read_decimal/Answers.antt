@@ -1,10 +1,6 @@
 -- `number::read_decimal` meets its contract: a first zero is decided at once, and behind any other byte no zero leads.
 use native.Mathlib.Omega.{arith}
-use mathlib.Core.Path.{◌≡◌}
-use mathlib.Core.Bool.{true}
-use borrow.Author.Rules.{rules}
-use Rattle.number.specs.Decimal.{no_leading_zero}
-use Rattle.number.proofs.ReadLaws.{read-empty, read-zero, read-leading, no_leading}
+use Rattle.number.proofs.ReadLaws.{read-empty, read-zero, read-leading}
 use Rattle.number.proofs.read_decimal.Goals.{Else-s-eq48}
 use Rattle.number.proofs.read_decimal.Goals as goal
 

@@ -1,10 +1,8 @@
 -- `number::read_long` meets its contract: what is left, after what was read, says what the whole says.
-use Prim.Native.Nat.{◌-◌, ◌≤◌}
 use native.Mathlib.Omega.{arith}
 use mathlib.Core.Path.{◌∙◌}
-use lib.ListN.{length, get_or}
-use borrow.Author.Rules.{rules}
-use Rattle.number.proofs.ReadLaws.{Digit, digit-told, Reading, read_begin, read-on, read_off, read-over, read-value}
+use lib.ListN.{get_or}
+use Rattle.number.proofs.ReadLaws.{Digit, digit-told, read_begin, read-over}
 use Rattle.number.proofs.read_long.Goals.{Else-not-is_digit}
 use Rattle.number.proofs.read_long.Goals as goal
 

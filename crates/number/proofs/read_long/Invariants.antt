@@ -1,10 +1,7 @@
 -- `number::read_long` meets its contract: what is left, after what was read, says what the whole says.
 use Prim.Native.Nat.{◌-◌, ◌≤◌}
-use native.Mathlib.Omega.{arith}
-use mathlib.Core.Path.{◌∙◌}
-use lib.ListN.{length, get_or}
-use borrow.Author.Rules.{rules}
-use Rattle.number.proofs.ReadLaws.{Digit, digit-told, Reading, read_begin, read-on, read_off, read-over, read-value}
+use lib.ListN.{length}
+use Rattle.number.proofs.ReadLaws.{Reading}
 use Rattle.number.proofs.read_long.Given as goal
 
 abbrev pub invariant-loop-i : goal.invariant-loop-i

@@ -1,9 +1,7 @@
 -- `number::read_short` meets its contract: what is left, after what was read, says what the whole says.
 use Prim.Native.Nat.{◌-◌}
-use native.Mathlib.Omega.{arith}
-use lib.ListN.{length, get_or}
-use borrow.Author.Rules.{rules}
-use Rattle.number.proofs.ReadLaws.{Digit, digit-told, Short, short_begin, short-room, short_on, read_off, read-value, read_above}
+use lib.ListN.{length}
+use Rattle.number.proofs.ReadLaws.{Short}
 use Rattle.number.proofs.read_short.Given as goal
 
 abbrev pub invariant-loop-i : goal.invariant-loop-i

@@ -1,13 +1,11 @@
 -- `number::store` meets its contract: what is left to put, after what was put, is all of it.
-use Prim.Native.Nat.{◌-◌}
 use native.Mathlib.Omega.{arith}
 use mathlib.Core.Path.{sym}
-use borrow.Author.Rules.{rules}
-use borrow.Author.Tests.{not-true, not-false}
-use Rattle.slices.proofs.PutLaws.{no_room-counted, some-room}
+use borrow.Author.Tests.{not-true}
+use Rattle.slices.proofs.PutLaws.{no_room-counted}
 use Rattle.number.specs.LittleEndian.{little_endian}
 use Rattle.number.proofs.LittleEndianLaws.{length-little_endian}
-use Rattle.number.proofs.WidthLaws.{Storing, store_begin, store_on, store_end}
+use Rattle.number.proofs.WidthLaws.{store_on, store_end}
 use Rattle.number.proofs.store.Goals as goal
 
 pub returns-then-not-has_room : goal.returns-then-not-has_room

@@ -2,7 +2,6 @@
 use Prim.Native.Nat.{◌+◌}
 use mathlib.Core.List.{[], ◌∷◌}
 use native.Mathlib.Omega.{arith}
-use borrow.Author.Rules.{rules}
 use Rattle.slices.proofs.PutLaws.{sets-put}
 use Rattle.number.proofs.DecimalLaws.{decimal_digit, decimal-some}
 use Rattle.number.proofs.PrintLaws.{decimal-two}

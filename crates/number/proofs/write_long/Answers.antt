@@ -1,9 +1,6 @@
 -- `number::write_long` meets its contract: the digits that are left, put before those that were put, make all of them.
-use Prim.Native.Nat.{◌+◌}
-use mathlib.Core.Path.{ap}
 use native.Mathlib.Omega.{arith}
-use Rattle.number.specs.Decimal.{decimal}
-use Rattle.number.proofs.PrintLaws.{Printing, put_keeps, print_begin, print_end, four-room, print_four}
+use Rattle.number.proofs.PrintLaws.{four-room, print_four}
 use Rattle.number.proofs.write_long.Goals as goal
 
 pub write_four-requires : goal.write_four-requires

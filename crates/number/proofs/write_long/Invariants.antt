@@ -1,9 +1,5 @@
 -- `number::write_long` meets its contract: the digits that are left, put before those that were put, make all of them.
-use Prim.Native.Nat.{◌+◌}
-use mathlib.Core.Path.{ap}
-use native.Mathlib.Omega.{arith}
-use Rattle.number.specs.Decimal.{decimal}
-use Rattle.number.proofs.PrintLaws.{Printing, put_keeps, print_begin, print_end, four-room, print_four}
+use Rattle.number.proofs.PrintLaws.{Printing}
 use Rattle.number.proofs.write_long.Given as goal
 
 abbrev pub invariant-loop-v : goal.invariant-loop-v
