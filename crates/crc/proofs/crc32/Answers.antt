@@ -1,7 +1,6 @@
 -- `crc::crc32` meets its contract: eights of bytes, the rest, and the complement.
 use Prim.Native.Nat.{ℕ}
 use mathlib.Core.Path.{ap, ◌∙◌}
-use borrow.Author.Rules.{rules}
 use lib.Bits.{bit_xor}
 use Rattle.crc.specs.Crc.{ones, crc32}
 use Rattle.crc.proofs.crc32.Goals as goal

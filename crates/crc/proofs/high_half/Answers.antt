@@ -1,5 +1,4 @@
 -- `crc::high_half` meets its contract by the rule of the tables.
-use borrow.Author.Rules.{rules}
 use Rattle.crc.proofs.PairLaws.{pair-four}
 use Rattle.crc.proofs.high_half.Goals as goal
 

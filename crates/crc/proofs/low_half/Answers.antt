@@ -1,5 +1,4 @@
 -- `crc::low_half` meets its contract by the rule of the tables.
-use borrow.Author.Rules.{rules}
 use Rattle.crc.proofs.PairLaws.{pair-four}
 use Rattle.crc.proofs.low_half.Goals as goal
 

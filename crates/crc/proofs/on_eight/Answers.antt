@@ -2,7 +2,6 @@
 use Prim.Native.Nat.{ℕ, ◌+◌, ◌<◌}
 use mathlib.Core.Path.{ap, ◌∙◌}
 use native.Mathlib.Omega.{arith}
-use borrow.Author.Rules.{rules}
 use lib.Bits.{bit_xor, xor_lt}
 use lib.ListN.{get_or}
 use Rattle.crc.specs.Words.{pair, four}
@@ -12,10 +11,9 @@ use Rattle.crc.proofs.on_eight.Goals as goal
 
 pub returns : goal.returns
 returns c =
-    let start = c in
-    let a = start.before.args in
+    let a = c.args in
     let bs = a.bytes.now in
-    let bytes : (k : ℕ) → get_or bs k 0 < 256 = λ k. omega (arith, start.shared-slice-known.given k) in
+    let bytes : (k : ℕ) → get_or bs k 0 < 256 = λ k. omega (arith, c.type_inv.bytes k) in
     let x : ℕ = bit_xor a.c (four bs a.at) in
     eight_passed bs bytes a.c a.at (omega arith)
     (words x (four bs (a.at + 4)) (xor_lt 32 a.c (four bs a.at) (omega arith) (four_lt bs bytes a.at)) (four_lt bs bytes (a.at + 4))

@@ -1,7 +1,6 @@
 -- `crc::on_eights` meets its contract: from what was made of the bytes passed, those left make what all of them make.
-use Prim.Native.Nat.{ℕ, ◌+◌, ◌*◌, ◌≤◌, ◌-◌}
-use mathlib.Core.Path.{◌≡◌, refl, ap, ◌∙◌}
-use native.Mathlib.Omega.{arith}
+use Prim.Native.Nat.{◌*◌, ◌≤◌, ◌-◌}
+use mathlib.Core.Path.{◌≡◌}
 use lib.ListN.{drop}
 use Rattle.crc.specs.Crc.{ones, on_bytes}
 use Rattle.crc.proofs.on_eights.Given as goal

@@ -1,11 +1,8 @@
 -- `crc::on_rest` meets its contract: from what was made of the bytes passed, those left make what all of them make.
-use Prim.Native.Nat.{◌+◌, ◌-◌}
-use mathlib.Core.Path.{◌≡◌, refl, sym, ◌∙◌}
-use native.Mathlib.Omega.{arith}
-use borrow.Author.Rules.{rules}
+use Prim.Native.Nat.{◌-◌}
+use mathlib.Core.Path.{◌≡◌}
 use lib.ListN.{length, drop}
 use Rattle.crc.specs.Crc.{on_bytes}
-use Rattle.crc.proofs.CrcLaws.{passed, all_passed}
 use Rattle.crc.proofs.on_rest.Given as goal
 
 abbrev pub invariant-loop-i : goal.invariant-loop-i
