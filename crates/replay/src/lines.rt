@@ -14,6 +14,8 @@ use script::lent::Space;
 use script::vocabulary::Reading;
 use script::words::{Bytes, Words};
 use script::{answers, input, lent, vocabulary};
+use std::io;
+use std::io::Input;
 
 // ---- calls on a log
 
@@ -71,6 +73,7 @@ fn call(
 
 // The buffer that a line lends is the first bytes of the space, filled before the call.
 fn answer_line(
+    rt: &impl Print,
     state: State,
     line: &[u8],
     bytes: &mut Bytes,
@@ -80,22 +83,23 @@ fn answer_line(
     image: &mut Disk,
     file: &mut Disk,
     space: &mut Space,
-) -> State {
+) -> io::Result<State> {
     let Reading::Words(words) = vocabulary::read(line, bytes) else {
-        answers::unknown();
-        return state;
+        answers::unknown(rt)?;
+        return Ok(state);
     };
     lent::prepare(space, words.lent);
     let called = call(
         state, words, bytes, buffer, slots, texts, image, file, space,
     );
     let told = called.told;
-    answers::print(words, told, space);
-    called.state
+    answers::print(rt, words, told, space)?;
+    Ok(called.state)
 }
 
 // Answers every line of the input. A proved loop has to end, and nothing says that the input does: so the lines are counted down.
 pub fn run(
+    rt: &(impl Input + Print),
     chunk: &mut Chunk,
     line: &mut Line,
     bytes: &mut Bytes,
@@ -105,23 +109,24 @@ pub fn run(
     image: &mut Disk,
     file: &mut Disk,
     space: &mut Space,
-) {
+) -> io::Result<()> {
     let mut state = State::new();
     let mut unread = Unread { from: 0, to: 0 };
     let mut left = u64::MAX;
     while left > 0 {
         left -= 1;
-        let taken = input::next_line(unread, chunk, line);
+        let taken = input::next_line(rt, unread, chunk, line)?;
         unread = taken.unread;
         if taken.ended & (taken.length == 0) {
-            return;
+            return Ok(());
         }
         let whole = input::bytes_of(line, taken.length);
         state = answer_line(
-            state, whole, bytes, buffer, slots, texts, image, file, space,
-        );
+            rt, state, whole, bytes, buffer, slots, texts, image, file, space,
+        )?;
         if taken.ended {
-            return;
+            return Ok(());
         }
     }
+    Ok(())
 }

@@ -14,9 +14,10 @@ mod write_calls;
 
 use board::Board;
 use joiner::Joiner;
+use std::io;
 
-fn main() {
-    let mut chunk = io::large_buffer();
+fn main(rt: HostRuntime) -> io::Result<()> {
+    let mut chunk = [0u8; 65536];
     let mut line = [0u8; 40001];
     let mut bytes = [0u8; 20000];
     let mut buffer = [0u8; 70000];
@@ -26,6 +27,7 @@ fn main() {
     let mut file = [0u8; 90000];
     let mut space = [0u8; 300000];
     lines::run(
+        &rt,
         &mut chunk,
         &mut line,
         &mut bytes,
@@ -35,5 +37,5 @@ fn main() {
         &mut image,
         &mut file,
         &mut space,
-    );
+    )
 }

@@ -1,7 +1,7 @@
 // An answer written out: what a call told, in the form that the vocabulary gives it.
 use crate::words::Words;
 use crate::{decimals, hex, lent, vocabulary};
-use libc::STDOUT_FILENO;
+use std::io;
 
 // No form has more words.
 const WORDS: usize = 16;
@@ -95,18 +95,19 @@ impl Told {
 
 // ---- the pieces of a form
 
-pub(crate) fn say(s: &[u8]) {
-    io::write_all(STDOUT_FILENO, s);
+pub(crate) fn say(rt: &impl Print, s: &[u8]) -> io::Result<()> {
+    rt.write_all(s)
 }
 
-fn number(n: u64) {
-    io::print_decimal(STDOUT_FILENO, n);
+fn number(rt: &impl Print, n: u64) -> io::Result<()> {
+    rt.print(n)
 }
 
-fn sign(negative: bool) {
+fn sign(rt: &impl Print, negative: bool) -> io::Result<()> {
     if negative {
-        say(b"-");
+        return say(rt, b"-");
     }
+    Ok(())
 }
 
 // The k-th number.
@@ -135,16 +136,16 @@ fn kind(word: &[u8]) -> u8 {
 }
 
 // A word of a form: the next number, the bytes, or a name.
-fn piece(word: &[u8], told: Told, k: usize, space: &[u8]) {
+fn piece(rt: &impl Print, word: &[u8], told: Told, k: usize, space: &[u8]) -> io::Result<()> {
     match kind(word) {
-        b'n' => number(number_of(told, k)),
+        b'n' => number(rt, number_of(told, k)),
         b'i' => {
-            sign(told.negative);
-            number(told.n0);
+            sign(rt, told.negative)?;
+            number(rt, told.n0)
         }
-        b'h' => hex::print(lent::between(space, told.from, told.to)),
-        b'm' => hex::print(lent::between(space, told.to, told.more)),
-        _ => say(word),
+        b'h' => hex::print(rt, lent::between(space, told.from, told.to)),
+        b'm' => hex::print(rt, lent::between(space, told.to, told.more)),
+        _ => say(rt, word),
     }
 }
 
@@ -156,12 +157,12 @@ fn numbers(word: &[u8]) -> usize {
     }
 }
 
-fn blank() {
-    say(b" ");
+fn blank(rt: &impl Print) -> io::Result<()> {
+    say(rt, b" ")
 }
 
 // The words of a form, one after the other.
-fn print_form(form: &[u8], told: Told, space: &[u8]) {
+fn print_form(rt: &impl Print, form: &[u8], told: Told, space: &[u8]) -> io::Result<()> {
     let mut from = 0;
     let mut k = 0;
     let mut words = 0;
@@ -169,14 +170,15 @@ fn print_form(form: &[u8], told: Told, space: &[u8]) {
         words += 1;
         let to = lent::next(form, from, b' ');
         let word = lent::between(form, from, to);
-        piece(word, told, k, space);
+        piece(rt, word, told, k, space)?;
         if form.len() <= to {
-            return;
+            return Ok(());
         }
         k = std::num::wrapping_add_usize(k, numbers(word));
-        blank();
+        blank(rt)?;
         from = to + 1;
     }
+    Ok(())
 }
 
 // Where the form begins that is meant, among those from a place on.
@@ -190,22 +192,29 @@ fn form_at(rows: &[u8], from: usize, meant: usize) -> usize {
     at
 }
 
-fn print_meant(rows: &[u8], words: Words, told: Told, space: &[u8]) {
+fn print_meant(
+    rt: &impl Print,
+    rows: &[u8],
+    words: Words,
+    told: Told,
+    space: &[u8],
+) -> io::Result<()> {
     let from = form_at(rows, words.forms, told.meant);
     let forms = lent::between(rows, from, words.forms_end);
     print_form(
+        rt,
         slices::front(forms, slices::until(forms, b'|')),
         told,
         space,
-    );
+    )
 }
 
 // What ends an answer: its newline, and before it what marks a byte that did not stay.
-fn end(stayed: bool) {
+fn end(rt: &impl Print, stayed: bool) -> io::Result<()> {
     if stayed {
-        say(b"\n");
+        say(rt, b"\n")
     } else {
-        say(b" CHANGED\n");
+        say(rt, b" CHANGED\n")
     }
 }
 
@@ -224,15 +233,14 @@ fn stayed(words: Words, told: Told, space: &[u8]) -> bool {
 }
 
 // Writes the answer; `?` for a line that is no call.
-pub fn print(words: Words, told: Told, space: &[u8]) {
+pub fn print(rt: &impl Print, words: Words, told: Told, space: &[u8]) -> io::Result<()> {
     if told.meant == NO_CALL {
-        unknown();
-        return;
+        return unknown(rt);
     }
-    print_meant(&vocabulary::ROWS, words, told, space);
-    end(stayed(words, told, space));
+    print_meant(rt, &vocabulary::ROWS, words, told, space)?;
+    end(rt, stayed(words, told, space))
 }
 
-pub fn unknown() {
-    say(b"?\n");
+pub fn unknown(rt: &impl Print) -> io::Result<()> {
+    say(rt, b"?\n")
 }

@@ -3,6 +3,7 @@ ghost use Rattle.std.specs.Prelude.{◌<◌};
 
 use crate::words::Bytes;
 use crate::{answers, lent};
+use std::io;
 
 // Where the bytes end that a word spells.
 #[derive(Clone, Copy)]
@@ -75,12 +76,12 @@ fn put(b: u8, out: &mut [u8; 1000], k: usize) {
     }
 }
 
-fn say(digits: &[u8; 1000], count: usize) {
-    answers::say(slices::front(digits, count));
+fn say(rt: &impl Print, digits: &[u8; 1000], count: usize) -> io::Result<()> {
+    answers::say(rt, slices::front(digits, count))
 }
 
 // At most 500 bytes as hex on standard output.
-fn print_some(bytes: &[u8]) {
+fn print_some(rt: &impl Print, bytes: &[u8]) -> io::Result<()> {
     let mut out = [0u8; 1000];
     let mut k = 0;
     while k < 500 {
@@ -90,18 +91,18 @@ fn print_some(bytes: &[u8]) {
         put(bytes[k], &mut out, k);
         k += 1;
     }
-    say(&out, 2 * k);
+    say(rt, &out, 2 * k)
 }
 
 // Bytes as hex on standard output, some after the other: the space has no more than 600 times 500.
-pub(crate) fn print(bytes: &[u8]) {
+pub(crate) fn print(rt: &impl Print, bytes: &[u8]) -> io::Result<()> {
     if bytes.len() == 0 {
-        answers::say(b"-");
-        return;
+        return answers::say(rt, b"-");
     }
     let mut from = 0;
     while from < 300000 {
-        print_some(lent::part(bytes, from, 500));
+        print_some(rt, lent::part(bytes, from, 500))?;
         from += 500;
     }
+    Ok(())
 }

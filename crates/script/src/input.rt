@@ -1,7 +1,8 @@
 // Lines of standard input, taken from chunks of it.
 use crate::lent;
-use libc::STDIN_FILENO;
 use slices::Placed;
+use std::io;
+use std::io::{Input, Read};
 
 // The longest line of a script.
 const LINE_MOST: usize = 40000;
@@ -27,9 +28,9 @@ pub struct Taken {
 }
 
 // Reads once; how many bytes came.
-fn refill(chunk: &mut Chunk) -> usize {
-    let got = libc::read(STDIN_FILENO, chunk);
-    io::count(got, chunk)
+fn refill(rt: &impl Input, chunk: &mut Chunk) -> io::Result<usize> {
+    let mut reader = rt.reader();
+    reader.read(chunk)
 }
 
 // A piece of a line put behind what has come of it.
@@ -41,7 +42,12 @@ fn with_piece(piece: &[u8], line: &mut Line, length: usize) -> usize {
 }
 
 // Takes the next line. A proved loop has to end, and nothing says that a line does: so the reads are counted down.
-pub fn next_line(unread: Unread, chunk: &mut Chunk, line: &mut Line) -> Taken {
+pub fn next_line(
+    rt: &impl Input,
+    unread: Unread,
+    chunk: &mut Chunk,
+    line: &mut Line,
+) -> io::Result<Taken> {
     let mut from = unread.from;
     let mut to = unread.to;
     let mut length = 0;
@@ -50,7 +56,7 @@ pub fn next_line(unread: Unread, chunk: &mut Chunk, line: &mut Line) -> Taken {
         reads -= 1;
         if to <= from {
             from = 0;
-            to = refill(chunk);
+            to = refill(rt, chunk)?;
         }
         if to == 0 {
             break;
@@ -62,19 +68,19 @@ pub fn next_line(unread: Unread, chunk: &mut Chunk, line: &mut Line) -> Taken {
         if ends {
             let newline = std::num::wrapping_add_usize(from, n);
             let behind = std::num::wrapping_add_usize(newline, 1);
-            return Taken {
+            return Ok(Taken {
                 length,
                 ended: false,
                 unread: Unread { from: behind, to },
-            };
+            });
         }
         from = to;
     }
-    Taken {
+    Ok(Taken {
         length,
         ended: true,
         unread: Unread { from: 0, to: 0 },
-    }
+    })
 }
 
 // The line's bytes; one that is too long has none, and is no call.
