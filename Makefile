@@ -18,23 +18,23 @@ run: INPUT ?= samples/match.kmsg
 run:
 	@bash tools/proved receiver
 	@echo "the board after $(INPUT):"
-	@target/bin/receiver <"$(INPUT)"
+	@crates/receiver/out/receiver <"$(INPUT)"
 
 join: INPUT ?= samples/referee.kmsg
 join:
 	@bash tools/proved join_lines
 	@echo "the texts of $(INPUT), put together:"
-	@target/bin/join_lines <"$(INPUT)"
+	@crates/join_lines/out/join_lines <"$(INPUT)"
 
 replay: INPUT ?= samples/rehearsal.script
 replay:
 	@bash tools/proved replay
-	@target/bin/replay <"$(INPUT)"
+	@crates/replay/out/replay <"$(INPUT)"
 
 trail: INPUT ?= samples/trail.image
 trail:
 	@bash tools/proved trail
-	@target/bin/trail <"$(INPUT)"
+	@crates/trail/out/trail <"$(INPUT)"
 
 test:
 	bash .ci/run

@@ -4,8 +4,8 @@
 # annotated_cases.sh [PROGRAM]: prints each answer that differs, and for each file how many were compared. With the word none, the second program alone.
 set -euo pipefail
 cd "$(dirname "$0")/.."
-program=${1:-target/bin/replay}
-[ "$program" = none ] || [ -x "$program" ] || { echo "no program $program: run 'rt check replay' first"; exit 2; }
+program=${1:-crates/replay/out/replay}
+[ "$program" = none ] || [ -x "$program" ] || { echo "no program $program: run 'rt run replay' first"; exit 2; }
 (cd compare && cargo build --release --offline --quiet)
 room=$(mktemp -d)
 trap 'rm -rf "$room"' EXIT

@@ -3,10 +3,10 @@
 # Prints how many were compared.
 set -euo pipefail
 cd "$(dirname "$0")/.."
-rt staticlib renderer >target/staticlib.log
+mkdir -p target && rt lib renderer >target/staticlib.log
 (cd compare && cargo build --release --offline --quiet)
 mkdir -p target/compare
-cc -std=c11 -O2 -Wall -Wextra -Werror -Iinclude compare/lines.c target/staticlib/librenderer.a -o target/compare/lines
+cc -std=c11 -O2 -Wall -Wextra -Werror -Iinclude compare/lines.c crates/renderer/out/librenderer.a -o target/compare/lines
 second=compare/target/release/compare
 room=$(mktemp -d)
 trap 'rm -rf "$room"' EXIT

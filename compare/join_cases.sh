@@ -3,8 +3,8 @@
 # join_cases.sh [PROGRAM]: prints each case that differs, and a last line 'N passed, M failed'.
 set -uo pipefail
 cd "$(dirname "$0")/.."
-program=${1:-target/bin/join_lines}
-[ -x "$program" ] || { echo "no program $program: run 'rt check join_lines' first"; exit 2; }
+program=${1:-crates/join_lines/out/join_lines}
+[ -x "$program" ] || { echo "no program $program: run 'rt run join_lines' first"; exit 2; }
 room=$(mktemp -d)
 trap 'rm -rf "$room"' EXIT
 passed=0 failed=0

@@ -4,8 +4,8 @@
 # night_lines.sh [REPLAY [RECEIVER]]: prints what differs, and what was read.
 set -uo pipefail
 cd "$(dirname "$0")/.."
-replay=${1:-target/bin/replay}
-receiver=${2:-target/bin/receiver}
+replay=${1:-crates/replay/out/replay}
+receiver=${2:-crates/receiver/out/receiver}
 for program in "$replay" "$receiver"; do
     [ -x "$program" ] || { echo "no program $program: run 'rt check replay receiver' first"; exit 2; }
 done

@@ -3,8 +3,8 @@
 # receiver_cases.sh [PROGRAM]: prints each case that differs, and a last line 'N passed, M failed'.
 set -uo pipefail
 cd "$(dirname "$0")/.."
-program=${1:-target/bin/receiver}
-[ -x "$program" ] || { echo "no program $program: run 'rt check receiver' first"; exit 2; }
+program=${1:-crates/receiver/out/receiver}
+[ -x "$program" ] || { echo "no program $program: run 'rt run receiver' first"; exit 2; }
 room=$(mktemp -d)
 trap 'rm -rf "$room"' EXIT
 passed=0 failed=0

@@ -3,9 +3,9 @@
 # replay_cases.sh [PROGRAM]: prints each case that differs with its first line that does, and what was compared.
 set -uo pipefail
 cd "$(dirname "$0")/.."
-program=${1:-target/bin/replay}
+program=${1:-crates/replay/out/replay}
 second=compare/target/release/compare
-[ -x "$program" ] || { echo "no program $program: run 'rt check replay' first"; exit 2; }
+[ -x "$program" ] || { echo "no program $program: run 'rt run replay' first"; exit 2; }
 (cd compare && cargo build --release --offline --quiet) || exit 2
 room=$(mktemp -d)
 trap 'rm -rf "$room"' EXIT

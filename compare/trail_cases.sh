@@ -5,9 +5,9 @@
 # trail_cases.sh [PROGRAM]: prints each script that differs with its first line that does, and what was checked. With the word none, the second program alone.
 set -uo pipefail
 cd "$(dirname "$0")/.."
-program=${1:-target/bin/replay}
+program=${1:-crates/replay/out/replay}
 second=compare/target/release/compare
-[ "$program" = none ] || [ -x "$program" ] || { echo "no program $program: run 'rt check replay' first"; exit 2; }
+[ "$program" = none ] || [ -x "$program" ] || { echo "no program $program: run 'rt run replay' first"; exit 2; }
 (cd compare && cargo build --release --offline --quiet) || exit 2
 room=$(mktemp -d)
 trap 'rm -rf "$room"' EXIT

@@ -3,8 +3,8 @@
 # trail_program.sh [PROGRAM]: prints each case that differs, and a last line 'N passed, M failed'.
 set -uo pipefail
 cd "$(dirname "$0")/.."
-program=${1:-target/bin/trail}
-[ -x "$program" ] || { echo "no program $program: run 'rt check trail' first"; exit 2; }
+program=${1:-crates/trail/out/trail}
+[ -x "$program" ] || { echo "no program $program: run 'rt run trail' first"; exit 2; }
 room=$(mktemp -d)
 trap 'rm -rf "$room"' EXIT
 passed=0 failed=0
