@@ -2,6 +2,7 @@
 ghost use Rattle.std.specs.Prelude.{◌<◌};
 
 use crate::say;
+use std::io;
 
 // One more than the longest.
 const ROOM: usize = 1101;
@@ -17,49 +18,50 @@ fn fill(bytes: &mut [u8]) {
     }
 }
 
-fn print(what: &[u8], bytes: &[u8]) {
-    say::text(b"crc ");
-    say::text(what);
-    say::text(b" ");
-    say::number(bytes.len() as u64);
-    say::text(b" ");
-    say::number(crc::crc32(bytes) as u64);
-    say::line();
+fn print(rt: &impl Print, what: &[u8], bytes: &[u8]) -> io::Result<()> {
+    say::text(rt, b"crc ")?;
+    say::text(rt, what)?;
+    say::text(rt, b" ")?;
+    say::number(rt, bytes.len() as u64)?;
+    say::text(rt, b" ")?;
+    say::number(rt, crc::crc32(bytes) as u64)?;
+    say::line(rt)
 }
 
 // The first bytes: none, so many, twice as many, and on.
-fn lengths(what: &[u8], bytes: &[u8], step: usize)
+fn lengths(rt: &impl Print, what: &[u8], bytes: &[u8], step: usize) -> io::Result<()>
     requires { 0 < step }
 {
     let mut n = 0;
     while n < bytes.len() {
-        print(what, slices::front(bytes, n));
+        print(rt, what, slices::front(bytes, n))?;
         if bytes.len() - n <= step {
-            return;
+            return Ok(());
         }
         n += step;
     }
+    Ok(())
 }
 
-fn zeros() {
+fn zeros(rt: &impl Print) -> io::Result<()> {
     let bytes = [0u8; ROOM];
-    lengths(b"zeros", &bytes, 99);
+    lengths(rt, b"zeros", &bytes, 99)
 }
 
-fn ones() {
+fn ones(rt: &impl Print) -> io::Result<()> {
     let bytes = [255u8; ROOM];
-    lengths(b"ones", &bytes, 99);
+    lengths(rt, b"ones", &bytes, 99)
 }
 
-fn made() {
+fn made(rt: &impl Print) -> io::Result<()> {
     let mut bytes = [0u8; ROOM];
     fill(&mut bytes);
-    lengths(b"made", &bytes, 1);
+    lengths(rt, b"made", &bytes, 1)
 }
 
-pub fn all() {
-    print(b"digits", b"123456789");
-    zeros();
-    ones();
-    made();
+pub fn all(rt: &impl Print) -> io::Result<()> {
+    print(rt, b"digits", b"123456789")?;
+    zeros(rt)?;
+    ones(rt)?;
+    made(rt)
 }

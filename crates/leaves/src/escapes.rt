@@ -2,59 +2,61 @@
 use crate::say;
 use escape::Unescaped;
 use slices::Placed;
+use std::io;
 
 // An escaped run, read back.
-fn back(s: &[u8]) {
+fn back(rt: &impl Print, s: &[u8]) -> io::Result<()> {
     let mut out = [0u8; 8];
     match escape::unescape(s, &mut out, 0) {
-        Unescaped::End(n) => say::bytes(slices::front(&out, n)),
-        Unescaped::NoRoom => say::text(b" no room"),
-        Unescaped::Misshapen => say::text(b" misshapen"),
+        Unescaped::End(n) => say::bytes(rt, slices::front(&out, n)),
+        Unescaped::NoRoom => say::text(rt, b" no room"),
+        Unescaped::Misshapen => say::text(rt, b" misshapen"),
     }
 }
 
 // A byte as a kmsg line has it, and read back.
-fn byte(b: u8) {
+fn byte(rt: &impl Print, b: u8) -> io::Result<()> {
     let one = [b];
     let mut out = [0u8; 4];
-    say::text(b"byte");
-    say::bytes(&one);
-    say::text(b" ");
+    say::text(rt, b"byte")?;
+    say::bytes(rt, &one)?;
+    say::text(rt, b" ")?;
     match escape::escape(&one, &mut out, 0) {
         Placed::End(n) => {
-            say::text(slices::front(&out, n));
-            back(slices::front(&out, n));
+            say::text(rt, slices::front(&out, n))?;
+            back(rt, slices::front(&out, n))?;
         }
-        Placed::NoRoom => say::text(b"no room"),
+        Placed::NoRoom => say::text(rt, b"no room")?,
     }
-    say::line();
+    say::line(rt)
 }
 
-fn every_byte() {
+fn every_byte(rt: &impl Print) -> io::Result<()> {
     let mut b: u64 = 0;
     while b < 256 {
-        byte((b % 256) as u8);
+        byte(rt, (b % 256) as u8)?;
         b += 1;
     }
+    Ok(())
 }
 
 // What isn't needed, and what isn't legal.
-fn read(s: &[u8]) {
-    say::text(b"unescape ");
-    say::text(s);
-    say::text(b":");
-    back(s);
-    say::line();
+fn read(rt: &impl Print, s: &[u8]) -> io::Result<()> {
+    say::text(rt, b"unescape ")?;
+    say::text(rt, s)?;
+    say::text(rt, b":")?;
+    back(rt, s)?;
+    say::line(rt)
 }
 
-pub fn all() {
-    every_byte();
-    read(b"\\x41B\\x43");
-    read(b"\\x5c");
-    read(b"\\");
-    read(b"\\x4");
-    read(b"\\X41");
-    read(b"\\x4A");
-    read(b"abcdefgh");
-    read(b"abcdefghi");
+pub fn all(rt: &impl Print) -> io::Result<()> {
+    every_byte(rt)?;
+    read(rt, b"\\x41B\\x43")?;
+    read(rt, b"\\x5c")?;
+    read(rt, b"\\")?;
+    read(rt, b"\\x4")?;
+    read(rt, b"\\X41")?;
+    read(rt, b"\\x4A")?;
+    read(rt, b"abcdefgh")?;
+    read(rt, b"abcdefghi")
 }

@@ -7,9 +7,11 @@ mod escapes;
 mod rings;
 mod say;
 
-fn main() {
-    decimals::all();
-    escapes::all();
-    rings::all();
-    crcs::all();
+use std::io;
+
+fn main(rt: HostRuntime) -> io::Result<()> {
+    decimals::all(&rt)?;
+    escapes::all(&rt)?;
+    rings::all(&rt)?;
+    crcs::all(&rt)
 }

@@ -5,55 +5,59 @@ ghost use Rattle.ring.specs.Ring.{Within};
 use crate::say;
 use ring::Place;
 use slices::Placed;
+use std::io;
 
 // The used bytes, one after the other.
-fn straight(buffer: &[u8], start: usize, used: usize)
+fn straight(rt: &impl Print, buffer: &[u8], start: usize, used: usize) -> io::Result<()>
     requires { Within buffer.now start used }
 {
     let mut i = 0;
     while i < used {
         let one = [ring::byte_at(buffer, Place(start), used, i)];
-        say::text(&one);
+        say::text(rt, &one)?;
         i += 1;
     }
+    Ok(())
 }
 
-fn put(start: usize, used: usize)
+fn put(rt: &impl Print, start: usize, used: usize) -> io::Result<()>
     requires { (start < 7) × (used ≤ 7) }
 {
     let mut buffer = *b"abcdefg";
-    say::text(b"ring ");
-    say::number(start as u64);
-    say::text(b" ");
-    say::number(used as u64);
-    say::text(b": ");
+    say::text(rt, b"ring ")?;
+    say::number(rt, start as u64)?;
+    say::text(rt, b" ")?;
+    say::number(rt, used as u64)?;
+    say::text(rt, b": ")?;
     match ring::ring_put(&mut buffer, Place(start), used, b"XYZ") {
         Placed::End(n) => {
-            say::text(&buffer);
+            say::text(rt, &buffer)?;
             if n <= 7 {
-                say::text(b" ");
-                straight(&buffer, start, n);
+                say::text(rt, b" ")?;
+                straight(rt, &buffer, start, n)?;
             }
         }
-        Placed::NoRoom => say::text(b"no room"),
+        Placed::NoRoom => say::text(rt, b"no room")?,
     }
-    say::line();
+    say::line(rt)
 }
 
-fn from(start: usize)
+fn from(rt: &impl Print, start: usize) -> io::Result<()>
     requires { start < 7 }
 {
     let mut used = 0;
     while used <= 7 {
-        put(start, used);
+        put(rt, start, used)?;
         used += 1;
     }
+    Ok(())
 }
 
-pub fn all() {
+pub fn all(rt: &impl Print) -> io::Result<()> {
     let mut start = 0;
     while start < 7 {
-        from(start);
+        from(rt, start)?;
         start += 1;
     }
+    Ok(())
 }

@@ -1,32 +1,33 @@
 // Writing to standard output.
-use libc::STDOUT_FILENO;
+use std::io;
 
-pub fn text(s: &[u8]) {
-    io::write_all(STDOUT_FILENO, s);
+pub fn text(rt: &impl Print, s: &[u8]) -> io::Result<()> {
+    rt.write_all(s)
 }
 
-pub fn number(n: u64) {
-    io::print_decimal(STDOUT_FILENO, n);
+pub fn number(rt: &impl Print, n: u64) -> io::Result<()> {
+    rt.print(n)
 }
 
-pub fn line() {
-    io::write_all(STDOUT_FILENO, b"\n");
+pub fn line(rt: &impl Print) -> io::Result<()> {
+    rt.write_all(b"\n")
 }
 
 // The first n bytes of a buffer, after a call that answered a place.
-pub fn placed(placed: slices::Placed, out: &[u8]) {
+pub fn placed(rt: &impl Print, placed: slices::Placed, out: &[u8]) -> io::Result<()> {
     match placed {
-        slices::Placed::End(n) => text(slices::front(out, n)),
-        slices::Placed::NoRoom => text(b"no room"),
+        slices::Placed::End(n) => text(rt, slices::front(out, n)),
+        slices::Placed::NoRoom => text(rt, b"no room"),
     }
 }
 
 // Bytes as numbers, a space before each.
-pub fn bytes(s: &[u8]) {
+pub fn bytes(rt: &impl Print, s: &[u8]) -> io::Result<()> {
     let mut i = 0;
     while i < s.len() {
-        text(b" ");
-        number(s[i] as u64);
+        text(rt, b" ")?;
+        number(rt, s[i] as u64)?;
         i += 1;
     }
+    Ok(())
 }
