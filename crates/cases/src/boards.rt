@@ -3,6 +3,7 @@ use crate::say;
 use board::{Board, Slot};
 use channel::Newest as Shown;
 use record::Seq;
+use std::io;
 
 // A board whose channel 23 shows number 9, with a text of this length.
 fn showing(length: usize) -> Board {
@@ -32,21 +33,22 @@ fn kept(board: Board, length: usize) -> bool {
 }
 
 // T14's message, for channel 16, delivered to such a board.
-fn deliver(buffer: &mut [u8], length: usize) {
-    say::named(b"board, buffer ", buffer.len());
-    say::named(b", text length ", length);
+fn deliver(rt: &impl Print, buffer: &mut [u8], length: usize) -> io::Result<()> {
+    say::named(rt, b"board, buffer ", buffer.len())?;
+    say::named(rt, b", text length ", length)?;
     let t = board::deliver(showing(length), buffer, b"134,7,1,-;1-0\n");
     let answer = t.answer;
     let after = t.board;
     say::answer(
+        rt,
         board::answer_number(answer),
         say::stayed(buffer) & kept(after, length),
-    );
+    )
 }
 
-pub fn all() {
-    deliver(&mut [165u8; 7680], 960);
-    deliver(&mut [165u8; 7679], 960);
-    deliver(&mut [165u8; 7681], 960);
-    deliver(&mut [165u8; 7680], 961);
+pub fn all(rt: &impl Print) -> io::Result<()> {
+    deliver(rt, &mut [165u8; 7680], 960)?;
+    deliver(rt, &mut [165u8; 7679], 960)?;
+    deliver(rt, &mut [165u8; 7681], 960)?;
+    deliver(rt, &mut [165u8; 7680], 961)
 }

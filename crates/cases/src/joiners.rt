@@ -3,6 +3,7 @@ use crate::say;
 use channel::Newest;
 use joiner::{Answer, Joiner, Length, Slot};
 use record::Seq;
+use std::io;
 
 // A joiner that took number 9, and whose facility 23 has a text of this length open.
 fn holding(length: usize) -> Joiner {
@@ -49,77 +50,89 @@ fn number_of(answer: Answer) -> u32 {
 }
 
 // Number 10, which stands alone, for facility 16.
-fn join(texts: &mut [u8], length: usize, first: &mut [u8], second: &mut [u8]) {
-    say::named(b"joiner, texts ", texts.len());
-    say::named(b", text length ", length);
-    say::named(b", results ", first.len());
-    say::named(b" and ", second.len());
+fn join(
+    rt: &impl Print,
+    texts: &mut [u8],
+    length: usize,
+    first: &mut [u8],
+    second: &mut [u8],
+) -> io::Result<()> {
+    say::named(rt, b"joiner, texts ", texts.len())?;
+    say::named(rt, b", text length ", length)?;
+    say::named(rt, b", results ", first.len())?;
+    say::named(rt, b" and ", second.len())?;
     let told = joiner::join(holding(length), texts, b"134,10,1,-;1-0\n", first, second);
     let answer = told.answer;
     let after = told.joiner;
     let lent = say::stayed(texts) & say::stayed(first) & say::stayed(second);
-    say::answer(number_of(answer), lent & kept(after, length));
+    say::answer(rt, number_of(answer), lent & kept(after, length))
 }
 
-fn close(texts: &[u8], length: usize, res: &mut [u8]) {
-    say::named(b"closing, texts ", texts.len());
-    say::named(b", text length ", length);
-    say::named(b", result ", res.len());
+fn close(rt: &impl Print, texts: &[u8], length: usize, res: &mut [u8]) -> io::Result<()> {
+    say::named(rt, b"closing, texts ", texts.len())?;
+    say::named(rt, b", text length ", length)?;
+    say::named(rt, b", result ", res.len())?;
     let told = joiner::close(holding(length), texts, res);
     let answer = told.answer;
     let after = told.joiner;
     let lent = say::stayed(texts) & say::stayed(res);
-    say::answer(number_of(answer), lent & kept(after, length));
+    say::answer(rt, number_of(answer), lent & kept(after, length))
 }
 
-fn joins() {
+fn joins(rt: &impl Print) -> io::Result<()> {
     join(
+        rt,
         &mut [165u8; 7680],
         960,
         &mut [165u8; 960],
         &mut [165u8; 960],
-    );
+    )?;
     join(
+        rt,
         &mut [165u8; 7679],
         960,
         &mut [165u8; 960],
         &mut [165u8; 960],
-    );
+    )?;
     join(
+        rt,
         &mut [165u8; 7681],
         960,
         &mut [165u8; 960],
         &mut [165u8; 960],
-    );
+    )?;
     join(
+        rt,
         &mut [165u8; 7680],
         961,
         &mut [165u8; 960],
         &mut [165u8; 960],
-    );
+    )?;
     join(
+        rt,
         &mut [165u8; 7680],
         960,
         &mut [165u8; 959],
         &mut [165u8; 960],
-    );
+    )?;
     join(
+        rt,
         &mut [165u8; 7680],
         960,
         &mut [165u8; 960],
         &mut [165u8; 959],
-    );
+    )
 }
 
-fn closes() {
-    close(&[165u8; 7680], 960, &mut [165u8; 960]);
-    close(&[165u8; 7679], 960, &mut [165u8; 960]);
-    close(&[165u8; 7681], 960, &mut [165u8; 960]);
-    close(&[165u8; 7680], 961, &mut [165u8; 960]);
-    close(&[165u8; 7680], 960, &mut [165u8; 959]);
+fn closes(rt: &impl Print) -> io::Result<()> {
+    close(rt, &[165u8; 7680], 960, &mut [165u8; 960])?;
+    close(rt, &[165u8; 7679], 960, &mut [165u8; 960])?;
+    close(rt, &[165u8; 7681], 960, &mut [165u8; 960])?;
+    close(rt, &[165u8; 7680], 961, &mut [165u8; 960])?;
+    close(rt, &[165u8; 7680], 960, &mut [165u8; 959])
 }
 
-pub fn all() {
-    joins();
-    closes();
+pub fn all(rt: &impl Print) -> io::Result<()> {
+    joins(rt)?;
+    closes(rt)
 }

@@ -7,8 +7,10 @@ mod joiners;
 mod lines;
 mod say;
 
-fn main() {
-    lines::all();
-    boards::all();
-    joiners::all();
+use std::io;
+
+fn main(rt: HostRuntime) -> io::Result<()> {
+    lines::all(&rt)?;
+    boards::all(&rt)?;
+    joiners::all(&rt)
 }

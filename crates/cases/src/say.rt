@@ -1,14 +1,14 @@
 // What a call was lent and what it did, in a line.
-use libc::STDOUT_FILENO;
+use std::io;
 
-fn text(s: &[u8]) {
-    io::write_all(STDOUT_FILENO, s);
+fn text(rt: &impl Print, s: &[u8]) -> io::Result<()> {
+    rt.write_all(s)
 }
 
 // A name and its number.
-pub fn named(name: &[u8], n: usize) {
-    text(name);
-    io::print_decimal(STDOUT_FILENO, n as u64);
+pub fn named(rt: &impl Print, name: &[u8], n: usize) -> io::Result<()> {
+    text(rt, name)?;
+    rt.print(n)
 }
 
 // A buffer is lent with each byte 165, and all of them are 165 still.
@@ -17,11 +17,11 @@ pub fn stayed(bytes: &[u8]) -> bool {
 }
 
 // A call's answer, and whether all that was lent or handed in is as it was.
-pub fn answer(answer: u32, stayed: bool) {
-    named(b": ", answer as usize);
+pub fn answer(rt: &impl Print, answer: u32, stayed: bool) -> io::Result<()> {
+    named(rt, b": ", answer as usize)?;
     if stayed {
-        text(b", nothing changed\n");
+        text(rt, b", nothing changed\n")
     } else {
-        text(b", changed\n");
+        text(rt, b", changed\n")
     }
 }

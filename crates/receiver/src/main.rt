@@ -7,8 +7,8 @@ ghost use Rattle.feed.specs.Longest.{report_most};
 
 use board::Board;
 use feed::Received;
-use libc::{STDIN_FILENO, STDOUT_FILENO};
 use slices::Placed;
+use std::io;
 
 // How many bytes of a buffer that has room for any report are written: no input leaves it without room.
 fn answer(input: &[u8], buffer: &mut [u8], out: &mut [u8]) -> usize
@@ -21,12 +21,12 @@ fn answer(input: &[u8], buffer: &mut [u8], out: &mut [u8]) -> usize
     end
 }
 
-fn main() {
+fn main(rt: HostRuntime) -> io::Result<()> {
     // One byte more than is taken, to see an input that is too long.
     let mut input = [0u8; Received::INPUT + 1];
-    let n = io::read_full(STDIN_FILENO, &mut input);
+    let n = streams::read_full(&mut rt.stdin(), &mut input)?;
     let mut buffer = [0u8; Board::BUFFER];
     let mut out = [0u8; Received::REPORT];
     let end = answer(slices::front(&input, n), &mut buffer, &mut out);
-    io::write_all(STDOUT_FILENO, slices::front(&out, end));
+    rt.write_all(slices::front(&out, end))
 }
