@@ -3,8 +3,8 @@
 // A reader wants the file as one run of bytes from its start, and a program has no memory but its stack, of 8 MiB as a rule. So 4 MiB of the input are held, many
 // times the longest image: a trail that ends or stops in there is told as it is, however long the input. One that goes on behind them, as no log of ours
 // leaves it, is told as that: the block behind them is held too, with a number that none has, and the reader stops there.
-use libc::STDIN_FILENO;
 use slices::Placed;
+use std::io::{Input as Source, Read};
 
 // What was read: how many bytes, and whether a read failed behind them.
 #[derive(Clone, Copy)]
@@ -44,19 +44,18 @@ fn with_piece(piece: &[u8], file: &mut File, at: usize) -> usize {
 }
 
 // Reads to the input's end, or till the file is full. A proved loop has to end, and nothing says that the input does: so the reads are counted down.
-fn read_all(chunk: &mut Chunk, file: &mut File) -> Input {
+fn read_all(rt: &impl Source, chunk: &mut Chunk, file: &mut File) -> Input {
+    let mut reader = rt.reader();
     let mut length = 0;
     let mut reads = u64::MAX;
     while reads > 0 {
         reads -= 1;
-        let got = libc::read(STDIN_FILENO, chunk);
-        if got < 0 {
+        let Ok(n) = reader.read(chunk) else {
             return Input {
                 length,
                 failed: true,
             };
-        }
-        let n = io::count(got, chunk);
+        };
         length = with_piece(slices::front(chunk, n), file, length);
         if (n == 0) | (length == Input::ROOM) {
             return Input {
@@ -76,8 +75,8 @@ fn mark_last(file: &mut File) {
     slices::copy(&[255, 255, 255, 255], file, Input::HELD);
 }
 
-pub fn read(chunk: &mut Chunk, file: &mut File) -> Input {
-    let input = read_all(chunk, file);
+pub fn read(rt: &impl Source, chunk: &mut Chunk, file: &mut File) -> Input {
+    let input = read_all(rt, chunk, file);
     if input.length == Input::ROOM {
         mark_last(file);
     }

@@ -1,6 +1,5 @@
 // The records of a trail, each as the line that a read of the log writes of it.
 use image::Ending;
-use libc::STDOUT_FILENO;
 use record::Heading;
 use savedtrail::{Reader, Told};
 use slices::Placed;
@@ -56,9 +55,9 @@ fn place_record(h: Heading, res: &Result, line: &mut Line) -> Placed {
     place(h, slices::front(res, text), dictionary, line)
 }
 
-fn print_record(h: Heading, res: &Result, line: &mut Line) -> bool {
+fn print_record(rt: &impl Print, h: Heading, res: &Result, line: &mut Line) -> bool {
     match place_record(h, res, line) {
-        Placed::End(length) => io::write_all(STDOUT_FILENO, slices::front(line, length)),
+        Placed::End(length) => rt.write_all(slices::front(line, length)).is_ok(),
         Placed::NoRoom => false,
     }
 }
@@ -72,23 +71,23 @@ fn written(done: bool) -> Step {
 }
 
 // A line that has no room and a result buffer that is too short are none of ours.
-fn print_told(told: Told, res: &Result, line: &mut Line) -> Step {
+fn print_told(rt: &impl Print, told: Told, res: &Result, line: &mut Line) -> Step {
     match told {
-        Told::Given(h, _) => written(print_record(h, res, line)),
+        Told::Given(h, _) => written(print_record(rt, h, res, line)),
         Told::Over(ending) => Step::Over(How::Ended(ending)),
         Told::Room => Step::Over(How::Unwritten),
     }
 }
 
 // Prints a file's records, one after the other. A proved loop has to end: so the calls are counted down.
-pub fn print(file: &[u8], res: &mut Result, line: &mut Line) -> Printed {
+pub fn print(rt: &impl Print, file: &[u8], res: &mut Result, line: &mut Line) -> Printed {
     let mut reader = Reader::new();
     let mut records: u64 = 0;
     while records < u64::MAX {
         let handed = savedtrail::next(reader, file, res);
         reader = handed.reader;
         let told = handed.told;
-        if let Step::Over(how) = print_told(told, res, line) {
+        if let Step::Over(how) = print_told(rt, told, res, line) {
             let blocks = reader.blocks;
             return Printed {
                 records,
