@@ -6,11 +6,10 @@
 #![tactic(auto)]
 
 use eventlog::{Answer, Log};
-use libc::{STDIN_FILENO, STDOUT_FILENO};
 use number::Decimal;
 use record::Heading;
 use slices::Found;
-use std::num::{wrapping_add_u64, wrapping_add_usize};
+use std::io;
 use syslog::Asked;
 
 // One record more than any log has room for.
@@ -75,8 +74,8 @@ fn number_at(s: &[u8], at: usize, stop: u8, most: u64) -> Read {
     let Decimal::Value(value) = number::read_decimal(slices::front(rest, end), most) else {
         return Read::Nothing;
     };
-    let behind = wrapping_add_usize(at, end);
-    Read::Number(value, wrapping_add_usize(behind, 1))
+    let behind = at.wrapping_add(end);
+    Read::Number(value, behind.wrapping_add(1))
 }
 
 fn read_filling(s: &[u8]) -> Filling {
@@ -183,7 +182,7 @@ fn ask_often(log: Log, buffer: &[u8], asked: Asked, lent: &mut [u8], times: u64)
     while n < times {
         let commanded = syslog::command(log, buffer, asked, lent);
         let answer = commanded.answer;
-        answered = wrapping_add_u64(answered, count_of(answer));
+        answered = answered.wrapping_add(count_of(answer));
         after = commanded.log;
         n += 1;
     }
@@ -205,50 +204,57 @@ fn checksum(bytes: &[u8]) -> u64 {
     let mut weighed: u64 = 0;
     let mut i = 0;
     while i < bytes.len() {
-        plain = wrapping_add_u64(plain, wide(bytes[i]));
-        weighed = wrapping_add_u64(weighed, plain);
+        plain = plain.wrapping_add(wide(bytes[i]));
+        weighed = weighed.wrapping_add(plain);
         i += 1;
     }
     weighed
 }
 
-fn print(number: u64, what: &[u8]) {
-    io::print_decimal(STDOUT_FILENO, number);
-    io::write_all(STDOUT_FILENO, what);
+fn print(rt: &impl Print, number: u64, what: &[u8]) -> io::Result<()> {
+    rt.print(number)?;
+    rt.write_all(what)
 }
 
-fn print_told(told: Told, sum: u64) {
+fn print_told(rt: &impl Print, told: Told, sum: u64) -> io::Result<()> {
     let log = told.log;
     let position = log.position;
-    print(told.answered, b" answered; position ");
-    print(position.0, b", offset ");
-    print(log.offset as u64, b"; checksum ");
-    print(sum, b"\n");
+    print(rt, told.answered, b" answered; position ")?;
+    print(rt, position.0, b", offset ")?;
+    print(rt, log.offset as u64, b"; checksum ")?;
+    print(rt, sum, b"\n")
 }
 
 // ---- the whole
 
-fn ask(log: Log, buffer: &[u8], asked: Asked, times: u64) {
+fn ask(rt: &impl Print, log: Log, buffer: &[u8], asked: Asked, times: u64) -> io::Result<()> {
     let mut lent = [0u8; LENT];
     let told = ask_often(log, buffer, asked, &mut lent, times);
-    print_told(told, checksum(&lent));
+    print_told(rt, told, checksum(&lent))
 }
 
-fn run(bytes: usize, every: usize, capacity: usize, asked: Asked, times: u64) {
+fn run(
+    rt: &impl Print,
+    bytes: usize,
+    every: usize,
+    capacity: usize,
+    asked: Asked,
+    times: u64,
+) -> io::Result<()> {
     let mut text = [0u8; Heading::PAYLOAD];
     put_text(&mut text, every);
     let mut space = [0u8; Log::CAPACITY_MOST];
     let buffer = first(&mut space, capacity);
     let log = fill(buffer, slices::front(&text, bytes));
-    ask(log, buffer, asked, times);
+    ask(rt, log, buffer, asked, times)
 }
 
-fn run_line(line: &[u8]) -> bool {
+fn run_line(rt: &impl Print, line: &[u8]) -> io::Result<bool> {
     let Filling::Records(bytes, every, capacity, behind) = read_filling(line) else {
-        return false;
+        return Ok(false);
     };
     let Calling::Command(command, len, times) = read_calling(line, behind) else {
-        return false;
+        return Ok(false);
     };
     let asked = Asked {
         command,
@@ -256,14 +262,15 @@ fn run_line(line: &[u8]) -> bool {
         privilege: true,
         restriction: false,
     };
-    run(bytes, every, capacity, asked, times);
-    true
+    run(rt, bytes, every, capacity, asked, times)?;
+    Ok(true)
 }
 
-fn main() {
+fn main(rt: HostRuntime) -> io::Result<()> {
     let mut input = [0u8; 64];
-    let n = io::read_full(STDIN_FILENO, &mut input);
-    if !run_line(slices::front(&input, n)) {
-        io::write_all(STDOUT_FILENO, b"six numbers are wanted\n");
+    let n = streams::read_full(&mut rt.stdin(), &mut input)?;
+    if !run_line(&rt, slices::front(&input, n))? {
+        rt.write_all(b"six numbers are wanted\n")?;
     }
+    Ok(())
 }

@@ -6,10 +6,9 @@
 #![tactic(auto)]
 
 use joiner::{Answer, Joiner, Text};
-use libc::{STDIN_FILENO, STDOUT_FILENO};
 use number::Decimal;
 use slices::Found;
-use std::num::{wrapping_add_u64, wrapping_add_usize};
+use std::io;
 
 // The numbers, and some messages: the longest of the bench has less than 4,096 bytes.
 const INPUT: usize = 16384;
@@ -69,8 +68,8 @@ fn number_at(s: &[u8], at: usize, stop: u8, most: u64) -> Read {
     let Decimal::Value(value) = number::read_decimal(slices::front(rest, end), most) else {
         return Read::Nothing;
     };
-    let behind = wrapping_add_usize(at, end);
-    Read::Number(value, wrapping_add_usize(behind, 1))
+    let behind = at.wrapping_add(end);
+    Read::Number(value, behind.wrapping_add(1))
 }
 
 fn understand(s: &[u8]) -> Asked {
@@ -103,7 +102,7 @@ fn message_at(feed: &[u8], at: usize, size: usize) -> &[u8] {
 
 // The place of the next message: the first one's, behind the last.
 fn next_place(at: usize, size: usize, whole: usize) -> usize {
-    let next = wrapping_add_usize(at, size);
+    let next = at.wrapping_add(size);
     if next < whole { next } else { 0 }
 }
 
@@ -131,7 +130,7 @@ fn pass(feed: &mut [u8], at: usize, feeding: Feeding) -> usize {
     if digit == 0 {
         return next;
     }
-    raise(feed, wrapping_add_usize(at, digit));
+    raise(feed, at.wrapping_add(digit));
     next
 }
 
@@ -154,13 +153,13 @@ fn last_byte(res: &[u8], size: usize) -> u64 {
 
 fn with_text(tally: Tally, text: Text, res: &[u8]) -> Tally {
     let size = text.size;
-    let mark = wrapping_add_u64(text.facility, last_byte(res, size));
+    let mark = text.facility.wrapping_add(last_byte(res, size));
     let refused = tally.refused;
     let refusals = tally.refusals;
     Tally {
-        texts: wrapping_add_u64(tally.texts, 1),
-        bytes: wrapping_add_u64(tally.bytes, size as u64),
-        marks: wrapping_add_u64(tally.marks, mark),
+        texts: tally.texts.wrapping_add(1),
+        bytes: tally.bytes.wrapping_add(size as u64),
+        marks: tally.marks.wrapping_add(mark),
         refused,
         refusals,
     }
@@ -174,8 +173,8 @@ fn with_refusal(tally: Tally, number: u32) -> Tally {
         texts,
         bytes,
         marks,
-        refused: wrapping_add_u64(tally.refused, 1),
-        refusals: wrapping_add_u64(tally.refusals, number as u64),
+        refused: tally.refused.wrapping_add(1),
+        refusals: tally.refusals.wrapping_add(number as u64),
     }
 }
 
@@ -243,41 +242,41 @@ fn checksum(bytes: &[u8]) -> u64 {
     let mut weighed: u64 = 0;
     let mut i = 0;
     while i < bytes.len() {
-        plain = wrapping_add_u64(plain, wide(bytes[i]));
-        weighed = wrapping_add_u64(weighed, plain);
+        plain = plain.wrapping_add(wide(bytes[i]));
+        weighed = weighed.wrapping_add(plain);
         i += 1;
     }
     weighed
 }
 
-fn print(number: u64, what: &[u8]) {
-    io::print_decimal(STDOUT_FILENO, number);
-    io::write_all(STDOUT_FILENO, what);
+fn print(rt: &impl Print, number: u64, what: &[u8]) -> io::Result<()> {
+    rt.print(number)?;
+    rt.write_all(what)
 }
 
-fn print_tally(tally: Tally) {
-    print(tally.texts, b" texts of ");
-    print(tally.bytes, b" bytes, marks ");
-    print(tally.marks, b"; ");
-    print(tally.refused, b" refused, numbers ");
-    print(tally.refusals, b"\n");
+fn print_tally(rt: &impl Print, tally: Tally) -> io::Result<()> {
+    print(rt, tally.texts, b" texts of ")?;
+    print(rt, tally.bytes, b" bytes, marks ")?;
+    print(rt, tally.marks, b"; ")?;
+    print(rt, tally.refused, b" refused, numbers ")?;
+    print(rt, tally.refusals, b"\n")
 }
 
-fn print_checksums(texts: &[u8], first: &[u8], second: &[u8]) {
-    print(checksum(texts), b" of the open texts' buffer, ");
-    print(checksum(first), b" and ");
-    print(checksum(second), b" of the results\n");
+fn print_checksums(rt: &impl Print, texts: &[u8], first: &[u8], second: &[u8]) -> io::Result<()> {
+    print(rt, checksum(texts), b" of the open texts' buffer, ")?;
+    print(rt, checksum(first), b" and ")?;
+    print(rt, checksum(second), b" of the results\n")
 }
 
 // ---- the whole
 
-fn run(feeding: Feeding, feed: &mut [u8]) {
+fn run(rt: &impl Print, feeding: Feeding, feed: &mut [u8]) -> io::Result<()> {
     let mut texts = [0u8; Joiner::BUFFER];
     let mut first = [0u8; Joiner::TEXT];
     let mut second = [0u8; Joiner::TEXT];
     let tally = join_often(feeding, feed, &mut texts, &mut first, &mut second);
-    print_tally(tally);
-    print_checksums(&texts, &first, &second);
+    print_tally(rt, tally)?;
+    print_checksums(rt, &texts, &first, &second)
 }
 
 // The bytes between two places: none, if they are not in order.
@@ -291,13 +290,11 @@ fn between(buffer: &mut [u8], from: usize, to: usize) -> &mut [u8] {
     &mut buffer[from..to]
 }
 
-fn main() {
+fn main(rt: HostRuntime) -> io::Result<()> {
     let mut input = [0u8; INPUT];
-    let n = io::read_full(STDIN_FILENO, &mut input);
+    let n = streams::read_full(&mut rt.stdin(), &mut input)?;
     match understand(slices::front(&input, n)) {
-        Asked::Feed(feeding, behind) => run(feeding, between(&mut input, behind, n)),
-        Asked::Nothing => {
-            io::write_all(STDOUT_FILENO, b"three numbers are wanted\n");
-        }
+        Asked::Feed(feeding, behind) => run(&rt, feeding, between(&mut input, behind, n)),
+        Asked::Nothing => rt.write_all(b"three numbers are wanted\n"),
     }
 }

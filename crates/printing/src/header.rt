@@ -1,7 +1,6 @@
 // The header of a line, as a whole line without text: put by `line` if there is room for it.
 use record::Heading;
 use slices::Placed;
-use std::num::wrapping_add_usize;
 
 // Puts a header at a place, and answers the place behind it.
 pub fn header(
@@ -31,5 +30,5 @@ pub fn header(
     let Placed::End(bytes) = line::place_line(h, none, none, none, none, room) else {
         return at;
     };
-    wrapping_add_usize(at, bytes)
+    at.wrapping_add(bytes)
 }

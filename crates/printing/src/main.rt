@@ -7,10 +7,9 @@
 
 mod header;
 
-use libc::{STDIN_FILENO, STDOUT_FILENO};
 use number::Decimal;
 use slices::{Found, Placed};
-use std::num::wrapping_add_usize;
+use std::io;
 
 // All numbers of an input, the first two among them.
 const NUMBERS: usize = 8192;
@@ -56,8 +55,8 @@ fn number_at(s: &[u8], at: usize) -> Read {
     let Decimal::Value(value) = number::read_decimal(slices::front(rest, end), u64::MAX) else {
         return Read::Nothing;
     };
-    let newline = wrapping_add_usize(at, end);
-    Read::Number(value, wrapping_add_usize(newline, 1))
+    let newline = at.wrapping_add(end);
+    Read::Number(value, newline.wrapping_add(1))
 }
 
 // The numbers of a whole input, if it is nothing else and there are not too many.
@@ -158,34 +157,31 @@ fn print_often(headers: bool, times: u64, values: &[u64], out: &mut [u8]) -> usi
     end
 }
 
-fn refuse() {
-    io::write_all(
-        STDOUT_FILENO,
+fn refuse(rt: &impl Print) -> io::Result<()> {
+    rt.write_all(
         b"wanted: plain decimal numbers, each ended by a newline, 8192 at most: 1 or 4, how often (100000000 at most), those to print, by fours behind a 4\n",
-    );
+    )
 }
 
-fn run(values: &[u64]) {
+fn run(rt: &impl Print, values: &[u64]) -> io::Result<()> {
     if values.len() < 2 {
-        refuse();
-        return;
+        return refuse(rt);
     }
     let times = values[1];
     let Asked::Headers(headers) = understand(values[0], times, values.len() - 2) else {
-        refuse();
-        return;
+        return refuse(rt);
     };
     let mut out = [0u8; PRINTED];
     let end = print_often(headers, times, &values[2..], &mut out);
-    io::write_all(STDOUT_FILENO, slices::front(&out, end));
+    rt.write_all(slices::front(&out, end))
 }
 
-fn main() {
+fn main(rt: HostRuntime) -> io::Result<()> {
     let mut input = [0u8; INPUT];
-    let n = io::read_full(STDIN_FILENO, &mut input);
+    let n = streams::read_full(&mut rt.stdin(), &mut input)?;
     let mut values = [0u64; NUMBERS];
     match read_numbers(slices::front(&input, n), &mut values) {
-        Count::Numbers(count) => run(first(&values, count)),
-        Count::Nothing => refuse(),
+        Count::Numbers(count) => run(&rt, first(&values, count)),
+        Count::Nothing => refuse(&rt),
     }
 }

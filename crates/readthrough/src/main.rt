@@ -7,10 +7,10 @@ mod tally;
 
 use eventlog::{Answer, Log};
 use kmsg::Reader;
-use libc::{STDIN_FILENO, STDOUT_FILENO};
 use number::Decimal;
 use record::Heading;
 use slices::Found;
+use std::io;
 use tally::Tally;
 
 // One record more than any log has room for.
@@ -118,23 +118,21 @@ fn read_often(log: Log, buffer: &[u8], lent: &mut [u8], times: u64) -> Tally {
     tally
 }
 
-fn run(bytes: usize, times: u64) {
+fn run(rt: &impl Print, bytes: usize, times: u64) -> io::Result<()> {
     let mut text = [0u8; Heading::PAYLOAD];
     letters(&mut text);
     let mut buffer = [0u8; Log::CAPACITY_MOST];
     let log = fill(&mut buffer, slices::front(&text, bytes));
     let mut lent = [0u8; Heading::LINE_MOST];
     let tally = read_often(log, &buffer, &mut lent, times);
-    tally.print();
+    tally.print(rt)
 }
 
-fn main() {
+fn main(rt: HostRuntime) -> io::Result<()> {
     let mut input = [0u8; 64];
-    let n = io::read_full(STDIN_FILENO, &mut input);
+    let n = streams::read_full(&mut rt.stdin(), &mut input)?;
     match understand(slices::front(&input, n)) {
-        Asked::Records(bytes, times) => run(bytes, times),
-        Asked::Nothing => {
-            io::write_all(STDOUT_FILENO, b"two numbers are wanted\n");
-        }
+        Asked::Records(bytes, times) => run(&rt, bytes, times),
+        Asked::Nothing => rt.write_all(b"two numbers are wanted\n"),
     }
 }

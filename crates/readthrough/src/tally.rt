@@ -1,6 +1,5 @@
 // What was read: how many records, how many bytes of lines, and a checksum of these bytes and their order. The sums wrap.
-use libc::STDOUT_FILENO;
-use std::num::wrapping_add_u64;
+use std::io;
 
 #[derive(Clone, Copy)]
 pub struct Tally {
@@ -27,25 +26,25 @@ impl Tally {
         let mut weighed = self.weighed;
         let mut i = 0;
         while i < line.len() {
-            plain = wrapping_add_u64(plain, wide(line[i]));
-            weighed = wrapping_add_u64(weighed, plain);
+            plain = plain.wrapping_add(wide(line[i]));
+            weighed = weighed.wrapping_add(plain);
             i += 1;
         }
         Self {
-            records: wrapping_add_u64(self.records, 1),
-            bytes: wrapping_add_u64(self.bytes, line.len() as u64),
+            records: self.records.wrapping_add(1),
+            bytes: self.bytes.wrapping_add(line.len() as u64),
             plain,
             weighed,
         }
     }
 
-    pub fn print(self) {
-        io::print_decimal(STDOUT_FILENO, self.records);
-        io::write_all(STDOUT_FILENO, b" records, ");
-        io::print_decimal(STDOUT_FILENO, self.bytes);
-        io::write_all(STDOUT_FILENO, b" bytes, checksum ");
-        io::print_decimal(STDOUT_FILENO, self.weighed);
-        io::write_all(STDOUT_FILENO, b"\n");
+    pub fn print(self, rt: &impl Print) -> io::Result<()> {
+        rt.print(self.records)?;
+        rt.write_all(b" records, ")?;
+        rt.print(self.bytes)?;
+        rt.write_all(b" bytes, checksum ")?;
+        rt.print(self.weighed)?;
+        rt.write_all(b"\n")
     }
 }
 

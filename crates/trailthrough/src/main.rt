@@ -8,12 +8,11 @@
 mod tally;
 
 use eventlog::{Answer, Log};
-use libc::{STDIN_FILENO, STDOUT_FILENO};
 use number::Decimal;
 use record::Heading;
 use savedtrail::{Reader, Told};
 use slices::Found;
-use std::num::{wrapping_add_u64, wrapping_add_usize};
+use std::io;
 use tally::{Sum, Tally};
 
 // One record more than any log has room for.
@@ -57,8 +56,8 @@ fn number_at(s: &[u8], at: usize, most: u64) -> Read {
     let Decimal::Value(value) = number::read_decimal(slices::front(rest, end), most) else {
         return Read::Nothing;
     };
-    let newline = wrapping_add_usize(at, end);
-    Read::Number(value, wrapping_add_usize(newline, 1))
+    let newline = at.wrapping_add(end);
+    Read::Number(value, newline.wrapping_add(1))
 }
 
 fn understand(s: &[u8]) -> Asked {
@@ -142,7 +141,7 @@ fn save_often(log: Log, buffer: &[u8], out: &mut [u8], times: u64) -> u64 {
     let mut n: u64 = 0;
     while n < times {
         let image = save_once(log, buffer, n, out);
-        bytes = wrapping_add_u64(bytes, image as u64);
+        bytes = bytes.wrapping_add(image as u64);
         n += 1;
     }
     bytes
@@ -198,49 +197,50 @@ fn sum_through(file: &[u8], res: &mut [u8]) -> Sum {
 
 // ---- the whole
 
-fn print(number: u64, what: &[u8]) {
-    io::print_decimal(STDOUT_FILENO, number);
-    io::write_all(STDOUT_FILENO, what);
+fn print(rt: &impl Print, number: u64, what: &[u8]) -> io::Result<()> {
+    rt.print(number)?;
+    rt.write_all(what)
 }
 
-fn read_back(file: &[u8], reads: u64) {
+fn read_back(rt: &impl Print, file: &[u8], reads: u64) -> io::Result<()> {
     let mut result = [0u8; Heading::PAYLOAD];
     let tally = read_often(file, &mut result, reads);
-    tally.print();
+    tally.print(rt)?;
     let sum = sum_through(file, &mut result);
-    sum.print(b"records");
+    sum.print(rt, b"records")
 }
 
-fn save_and_read(log: Log, buffer: &[u8], saves: u64, reads: u64) {
+fn save_and_read(
+    rt: &impl Print,
+    log: Log,
+    buffer: &[u8],
+    saves: u64,
+    reads: u64,
+) -> io::Result<()> {
     let mut out = [0u8; Reader::LONGEST];
     let bytes = save_often(log, buffer, &mut out, saves);
-    print(bytes, b" bytes saved\n");
+    print(rt, bytes, b" bytes saved\n")?;
     let image = save_once(log, buffer, saves, &mut out);
     let file = slices::front(&out, image);
     let sum = Sum::new().with(file);
-    sum.print(b"image");
-    read_back(file, reads);
+    sum.print(rt, b"image")?;
+    read_back(rt, file, reads)
 }
 
-fn run(capacity: usize, bytes: usize, saves: u64, reads: u64) {
+fn run(rt: &impl Print, capacity: usize, bytes: usize, saves: u64, reads: u64) -> io::Result<()> {
     let mut text = [0u8; Heading::PAYLOAD];
     letters(&mut text);
     let mut space = [0u8; Log::CAPACITY_MOST];
     let buffer = first(&mut space, capacity);
     let log = fill(buffer, slices::front(&text, bytes));
-    save_and_read(log, buffer, saves, reads);
+    save_and_read(rt, log, buffer, saves, reads)
 }
 
-fn main() {
+fn main(rt: HostRuntime) -> io::Result<()> {
     let mut input = [0u8; 64];
-    let n = io::read_full(STDIN_FILENO, &mut input);
+    let n = streams::read_full(&mut rt.stdin(), &mut input)?;
     match understand(slices::front(&input, n)) {
-        Asked::Trail(capacity, bytes, saves, reads) => run(capacity, bytes, saves, reads),
-        Asked::Nothing => {
-            io::write_all(
-                STDOUT_FILENO,
-                b"four numbers are wanted, each ended by a newline\n",
-            );
-        }
+        Asked::Trail(capacity, bytes, saves, reads) => run(&rt, capacity, bytes, saves, reads),
+        Asked::Nothing => rt.write_all(b"four numbers are wanted, each ended by a newline\n"),
     }
 }

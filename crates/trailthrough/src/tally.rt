@@ -1,7 +1,6 @@
 // What is told of the records handed out: a tally that costs little, for the reads that are timed, and a checksum of all bytes. The sums wrap.
-use libc::STDOUT_FILENO;
 use record::Heading;
-use std::num::wrapping_add_u64;
+use std::io;
 
 // How many records and bytes of text and dictionary, and the sum of the times and of each record's last byte.
 #[derive(Clone, Copy)]
@@ -31,21 +30,21 @@ impl Tally {
     // One record more: its heading, and the result buffer.
     pub fn with(self, h: Heading, res: &[u8]) -> Self {
         let n = h.text as usize + h.dictionary as usize;
-        let told = wrapping_add_u64(h.time, last(res, n));
+        let told = h.time.wrapping_add(last(res, n));
         Self {
-            records: wrapping_add_u64(self.records, 1),
-            bytes: wrapping_add_u64(self.bytes, n as u64),
-            sum: wrapping_add_u64(self.sum, told),
+            records: self.records.wrapping_add(1),
+            bytes: self.bytes.wrapping_add(n as u64),
+            sum: self.sum.wrapping_add(told),
         }
     }
 
-    pub fn print(self) {
-        io::print_decimal(STDOUT_FILENO, self.records);
-        io::write_all(STDOUT_FILENO, b" records read, ");
-        io::print_decimal(STDOUT_FILENO, self.bytes);
-        io::write_all(STDOUT_FILENO, b" bytes, sum ");
-        io::print_decimal(STDOUT_FILENO, self.sum);
-        io::write_all(STDOUT_FILENO, b"\n");
+    pub fn print(self, rt: &impl Print) -> io::Result<()> {
+        rt.print(self.records)?;
+        rt.write_all(b" records read, ")?;
+        rt.print(self.bytes)?;
+        rt.write_all(b" bytes, sum ")?;
+        rt.print(self.sum)?;
+        rt.write_all(b"\n")
     }
 }
 
@@ -63,12 +62,12 @@ impl Sum {
         let mut weighed = self.weighed;
         let mut i = 0;
         while i < bytes.len() {
-            plain = wrapping_add_u64(plain, wide(bytes[i]));
-            weighed = wrapping_add_u64(weighed, plain);
+            plain = plain.wrapping_add(wide(bytes[i]));
+            weighed = weighed.wrapping_add(plain);
             i += 1;
         }
         Self {
-            bytes: wrapping_add_u64(self.bytes, bytes.len() as u64),
+            bytes: self.bytes.wrapping_add(bytes.len() as u64),
             plain,
             weighed,
         }
@@ -81,13 +80,13 @@ impl Sum {
         sum.with(slices::front(res, h.text as usize + h.dictionary as usize))
     }
 
-    pub fn print(self, what: &[u8]) {
-        io::write_all(STDOUT_FILENO, what);
-        io::write_all(STDOUT_FILENO, b": ");
-        io::print_decimal(STDOUT_FILENO, self.bytes);
-        io::write_all(STDOUT_FILENO, b" bytes, checksum ");
-        io::print_decimal(STDOUT_FILENO, self.weighed);
-        io::write_all(STDOUT_FILENO, b"\n");
+    pub fn print(self, rt: &impl Print, what: &[u8]) -> io::Result<()> {
+        rt.write_all(what)?;
+        rt.write_all(b": ")?;
+        rt.print(self.bytes)?;
+        rt.write_all(b" bytes, checksum ")?;
+        rt.print(self.weighed)?;
+        rt.write_all(b"\n")
     }
 }
 

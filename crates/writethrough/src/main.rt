@@ -6,11 +6,10 @@
 
 use eventlog::{Answer, Log};
 use kmsg::Reader;
-use libc::{STDIN_FILENO, STDOUT_FILENO};
 use number::Decimal;
 use record::Heading;
 use slices::Found;
-use std::num::wrapping_add_u64;
+use std::io;
 
 const INPUT: usize = 1024;
 
@@ -78,8 +77,8 @@ fn write_often(buffer: &mut [u8], message: &[u8], times: u64) -> Told {
     while n < times {
         let written = writes::write_outside(log, buffer, n, message, CALLER);
         let answer = written.answer;
-        answered = wrapping_add_u64(answered, bytes_of(answer));
-        dropped = wrapping_add_u64(dropped, written.dropped);
+        answered = answered.wrapping_add(bytes_of(answer));
+        dropped = dropped.wrapping_add(written.dropped);
         log = written.log;
         n += 1;
     }
@@ -90,56 +89,54 @@ fn write_often(buffer: &mut [u8], message: &[u8], times: u64) -> Told {
     }
 }
 
-fn print(number: u64, what: &[u8]) {
-    io::print_decimal(STDOUT_FILENO, number);
-    io::write_all(STDOUT_FILENO, what);
+fn print(rt: &impl Print, number: u64, what: &[u8]) -> io::Result<()> {
+    rt.print(number)?;
+    rt.write_all(what)
 }
 
-fn print_told(told: Told) {
+fn print_told(rt: &impl Print, told: Told) -> io::Result<()> {
     let log = told.log;
     let start = log.start;
     let next = log.next;
-    print(told.answered, b" bytes answered, ");
-    print(told.dropped, b" records dropped; start ");
-    print(start.0 as u64, b", used ");
-    print(log.used as u64, b", next ");
-    print(next.0, b"\n");
+    print(rt, told.answered, b" bytes answered, ")?;
+    print(rt, told.dropped, b" records dropped; start ")?;
+    print(rt, start.0 as u64, b", used ")?;
+    print(rt, log.used as u64, b", next ")?;
+    print(rt, next.0, b"\n")
 }
 
 // The oldest line that is held, as a reader gets it.
-fn print_oldest(log: Log, buffer: &[u8], lent: &mut [u8]) {
+fn print_oldest(rt: &impl Print, log: Log, buffer: &[u8], lent: &mut [u8]) -> io::Result<()> {
     let given = kmsg::read(Reader::new(log), log, buffer, lent);
     let answer = given.answer;
     let Answer::Done(bytes) = answer else {
-        io::write_all(STDOUT_FILENO, b"no record is held\n");
-        return;
+        return rt.write_all(b"no record is held\n");
     };
-    io::write_all(STDOUT_FILENO, slices::front(lent, bytes as usize));
+    rt.write_all(slices::front(lent, bytes as usize))
 }
 
-fn run(capacity: usize, times: u64, message: &[u8]) {
+fn run(rt: &impl Print, capacity: usize, times: u64, message: &[u8]) -> io::Result<()> {
     let mut space = [0u8; Log::CAPACITY_MOST];
     let buffer = first(&mut space, capacity);
     let told = write_often(buffer, message, times);
-    print_told(told);
+    print_told(rt, told)?;
     let mut lent = [0u8; Heading::LINE_MOST];
-    print_oldest(told.log, buffer, &mut lent);
+    print_oldest(rt, told.log, buffer, &mut lent)
 }
 
-fn main() {
+fn main(rt: HostRuntime) -> io::Result<()> {
     let mut input = [0u8; INPUT];
-    let n = io::read_full(STDIN_FILENO, &mut input);
+    let n = streams::read_full(&mut rt.stdin(), &mut input)?;
     let all = slices::front(&input, n);
     match understand(all) {
         Asked::Writes(capacity, times) => {
             run(
+                &rt,
                 capacity,
                 times,
                 slices::past(all, slices::until(all, b'\n')),
             )
         }
-        Asked::Nothing => {
-            io::write_all(STDOUT_FILENO, b"two numbers are wanted\n");
-        }
+        Asked::Nothing => rt.write_all(b"two numbers are wanted\n"),
     }
 }
