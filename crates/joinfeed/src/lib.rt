@@ -6,7 +6,7 @@ ghost use Rattle.escape.specs.Answers.{Written};
 ghost use Rattle.feed.specs.Feed.{messages};
 ghost use Rattle.joiner.specs.Joiner.{fresh, state};
 ghost use Rattle.joiner.specs.Whole.{joining, closing, shown_by, called, all_shown};
-ghost use Rattle.joinfeed.specs.Lines.{result, text_line, text_lines, count_refused, joinings, closings, output, buffer_after};
+ghost use Rattle.joinfeed.specs.Lines.{result as lent, text_line, text_lines, count_refused, joinings, closings, output, buffer_after};
 ghost use Rattle.joinfeed.specs.Steps.{Steps, Runs};
 
 use channel::Place;
@@ -31,7 +31,7 @@ struct Progress {
 
 // 1 for a refusal, 0 for none.
 fn count_refused(answer: Answer) -> u64
-    ensures* { λ r. ⌜ r ≡ count_refused answer ⌝ }
+    ensures { result ≡ count_refused answer }
 {
     match answer {
         Answer::Nothing => 0,
@@ -44,7 +44,7 @@ fn count_refused(answer: Answer) -> u64
 // A text's line, put at a place where there is room for it; the place behind it.
 fn write_text(facility: u64, text: &[u8], out: &mut [u8], at: usize) -> usize
     requires { at + length (text_line facility text.now) ≤ length out.old }
-    ensures* { λ r. ⌜ Written out.old at (text_line facility text.now) r out.new ⌝ }
+    ensures { Written out.old at (text_line facility text.now) result out.new }
 {
     let from = feed::write_field(facility, b' ', out, at);
     let end = escape::write_escaped(text, out, from);
@@ -55,7 +55,7 @@ fn write_text(facility: u64, text: &[u8], out: &mut [u8], at: usize) -> usize
 // The lines of the texts that an answer gives, a closed one before the message that closed it.
 fn write_answer(answer: Answer, first: &[u8], second: &[u8], out: &mut [u8], at: usize) -> usize
     requires { at + length (text_lines (shown_by answer first.now second.now)) ≤ length out.old }
-    ensures* { λ r. ⌜ Written out.old at (text_lines (shown_by answer first.now second.now)) r out.new ⌝ }
+    ensures { Written out.old at (text_lines (shown_by answer first.now second.now)) result out.new }
 {
     match answer {
         Answer::Nothing => at,
@@ -70,8 +70,8 @@ fn write_answer(answer: Answer, first: &[u8], second: &[u8], out: &mut [u8], at:
 
 // One message joined, and the lines of the texts that it gives, at a place where there is room for them. Its two results, 960 bytes each, lie on the stack.
 fn take(joiner: Joiner, texts: &mut [u8], m: &[u8], out: &mut [u8], at: usize) -> Progress
-    requires { at + length (text_lines (called (state joiner.slots joiner.last texts.old) (joining m.now result result)).shown) ≤ length out.old }
-    ensures* { λ r. ⌜ Steps (state joiner.slots joiner.last texts.old) (joining m.now result result) out.old at r texts.new out.new ⌝ }
+    requires { at + length (text_lines (called (state joiner.slots joiner.last texts.old) (joining m.now lent lent)).shown) ≤ length out.old }
+    ensures { Steps (state joiner.slots joiner.last texts.old) (joining m.now lent lent) out.old at result texts.new out.new }
 {
     let mut first = [0u8; Joiner::TEXT];
     let mut second = [0u8; Joiner::TEXT];
@@ -88,8 +88,8 @@ fn take(joiner: Joiner, texts: &mut [u8], m: &[u8], out: &mut [u8], at: usize) -
 
 // The lowest open text closed, and its line, at a place where there is room for it.
 fn close(joiner: Joiner, texts: &[u8], out: &mut [u8], at: usize) -> Progress
-    requires { at + length (text_lines (called (state joiner.slots joiner.last texts.now) (closing result)).shown) ≤ length out.old }
-    ensures* { λ r. ⌜ Steps (state joiner.slots joiner.last texts.now) (closing result) out.old at r texts.now out.new ⌝ }
+    requires { at + length (text_lines (called (state joiner.slots joiner.last texts.now) (closing lent)).shown) ≤ length out.old }
+    ensures { Steps (state joiner.slots joiner.last texts.now) (closing lent) out.old at result texts.now out.new }
 {
     let mut given = [0u8; Joiner::TEXT];
     let told = joiner::close(joiner, texts, &mut given);
@@ -106,7 +106,7 @@ fn close(joiner: Joiner, texts: &[u8], out: &mut [u8], at: usize) -> Progress
 // All messages of a feed, joined one after the other from a fresh joiner, and their lines at the front of a buffer that has room for them.
 fn take_all(input: &[u8], texts: &mut [u8], out: &mut [u8]) -> Progress
     requires { length (text_lines (all_shown (fresh texts.old) (joinings (messages input.now)))) ≤ length out.old }
-    ensures* { λ r. ⌜ Runs (fresh texts.old) (joinings (messages input.now)) out.old 0 r texts.new out.new ⌝ }
+    ensures { Runs (fresh texts.old) (joinings (messages input.now)) out.old 0 result texts.new out.new }
 {
     let mut joiner = Joiner::new();
     let mut refused: u64 = 0;
@@ -131,7 +131,7 @@ fn take_all(input: &[u8], texts: &mut [u8], out: &mut [u8]) -> Progress
 // What is open, closed, and its lines at a place where there is room for them; the place behind them.
 fn close_all(joiner: Joiner, texts: &[u8], out: &mut [u8], at: usize) -> usize
     requires { at + length (text_lines (all_shown (state joiner.slots joiner.last texts.now) closings)) ≤ length out.old }
-    ensures* { λ r. ⌜ Written out.old at (text_lines (all_shown (state joiner.slots joiner.last texts.now) closings)) r out.new ⌝ }
+    ensures { Written out.old at (text_lines (all_shown (state joiner.slots joiner.last texts.now) closings)) result out.new }
 {
     let mut left = joiner;
     let mut end = at;
@@ -147,8 +147,8 @@ fn close_all(joiner: Joiner, texts: &[u8], out: &mut [u8], at: usize) -> usize
 
 // All that the program writes for this input, at the front of a buffer that has room for any; how many bytes they are.
 pub fn run(input: &[u8], texts: &mut [u8], out: &mut [u8; OUTPUT]) -> usize
-    ensures* fact { λ r. ⌜ (take r out.new ≡ output texts.old input.now) × (drop r out.new ≡ drop r out.old) ⌝ }
-    ensures* texts_after { λ r. ⌜ texts.new ≡ buffer_after texts.old input.now ⌝ }
+    ensures fact { (take result out.new ≡ output texts.old input.now) × (drop result out.new ≡ drop result out.old) }
+    ensures texts_after { texts.new ≡ buffer_after texts.old input.now }
 {
     if Received::INPUT < input.len() {
         return match slices::copy(b"input too long\n", out, 0) {
