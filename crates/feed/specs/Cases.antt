@@ -1,5 +1,5 @@
 -- The receiver program's worked case of document 01: T14 to T16 in turn.
-use Rattle.std.specs.Prelude.{ℕ, ◌≡◌, List, ◌++◌, replicate}
+use Rattle.std.specs.Prelude.{◌≡◌, replicate}
 use Rattle.slices.specs.Quoted.{quoted}
 use Rattle.board.specs.Board.{buffer_size}
 use Rattle.feed.specs.Feed.{output}
