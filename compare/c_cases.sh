@@ -3,7 +3,7 @@
 # Prints how many were compared.
 set -euo pipefail
 cd "$(dirname "$0")/.."
-mkdir -p target && rt lib renderer >target/staticlib.log
+mkdir -p target && (cd crates/renderer && rt lib) >target/staticlib.log
 (cd compare && cargo build --release --offline --quiet)
 mkdir -p target/compare
 cc -std=c11 -O2 -Wall -Wextra -Werror -Iinclude compare/lines.c crates/renderer/out/librenderer.a -o target/compare/lines

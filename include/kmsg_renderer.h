@@ -1,7 +1,7 @@
 /*
  * The two calls of the event log that a renderer in C makes.
  *
- * Link with librenderer.a (`rt staticlib renderer` writes it to target/staticlib/). Both calls are proved: they answer for any bytes and any
+ * Link with librenderer.a (`rt lib` in crates/renderer writes it to its out/). Both calls are proved: they answer for any bytes and any
  * numbers, end, and touch no byte but those said here. The proof rests on what C must guarantee:
  *
  *   - no pointer is null, also where its length is 0;
