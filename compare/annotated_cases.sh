@@ -5,7 +5,7 @@
 set -euo pipefail
 cd "$(dirname "$0")/.."
 program=${1:-crates/replay/out/replay}
-[ "$program" = none ] || [ -x "$program" ] || { echo "no program $program: run 'rt run replay' first"; exit 2; }
+[ "$program" = none ] || [ -x "$program" ] || { echo "no program $program: run 'bash tools/proved replay' first"; exit 2; }
 (cd compare && cargo build --release --offline --quiet)
 room=$(mktemp -d)
 trap 'rm -rf "$room"' EXIT

@@ -4,7 +4,7 @@
 set -uo pipefail
 cd "$(dirname "$0")/.."
 program=${1:-crates/join_lines/out/join_lines}
-[ -x "$program" ] || { echo "no program $program: run 'rt run join_lines' first"; exit 2; }
+[ -x "$program" ] || { echo "no program $program: run 'bash tools/proved join_lines' first"; exit 2; }
 room=$(mktemp -d)
 trap 'rm -rf "$room"' EXIT
 passed=0 failed=0

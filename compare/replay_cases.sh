@@ -5,7 +5,7 @@ set -uo pipefail
 cd "$(dirname "$0")/.."
 program=${1:-crates/replay/out/replay}
 second=compare/target/release/compare
-[ -x "$program" ] || { echo "no program $program: run 'rt run replay' first"; exit 2; }
+[ -x "$program" ] || { echo "no program $program: run 'bash tools/proved replay' first"; exit 2; }
 (cd compare && cargo build --release --offline --quiet) || exit 2
 room=$(mktemp -d)
 trap 'rm -rf "$room"' EXIT

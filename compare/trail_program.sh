@@ -4,7 +4,7 @@
 set -uo pipefail
 cd "$(dirname "$0")/.."
 program=${1:-crates/trail/out/trail}
-[ -x "$program" ] || { echo "no program $program: run 'rt run trail' first"; exit 2; }
+[ -x "$program" ] || { echo "no program $program: run 'bash tools/proved trail' first"; exit 2; }
 room=$(mktemp -d)
 trap 'rm -rf "$room"' EXIT
 passed=0 failed=0
