@@ -7,7 +7,7 @@ cd "$(dirname "$0")/.."
 replay=${1:-crates/replay/out/replay}
 receiver=${2:-crates/receiver/out/receiver}
 for program in "$replay" "$receiver"; do
-    [ -x "$program" ] || { echo "no program $program: run 'rt check replay receiver' first"; exit 2; }
+    [ -x "$program" ] || { echo "no program $program: run 'bash tools/proved replay' first"; exit 2; }
 done
 room=$(mktemp -d)
 trap 'rm -rf "$room"' EXIT
