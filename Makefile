@@ -10,7 +10,7 @@ help:
 	@echo "make replay INPUT=file   the same for one's own script"
 	@echo "make trail               the records of a sample saved trail, and how it ended (samples/trail.image)"
 	@echo "make trail INPUT=file    the same for one's own image, as samples/trail-callers.image, whose records have callers, or samples/trail-cut.image, which a power cut left over an older one"
-	@echo "make test                the whole gate: every crate proved, every wrong program refused, every program run and compared; some forty-five minutes on 2 cores"
+	@echo "make test                the whole gate: every crate proved, every wrong program refused, every program run and compared; an hour or two from nothing, minutes where the machine keeps what it proved"
 	@echo
 	@echo "README.md says what the calls are, docs/ARCHITECTURE.md where things stand."
 
