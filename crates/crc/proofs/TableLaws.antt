@@ -1,8 +1,9 @@
 -- The eight tables of src/lib.rt one behind the other, and their rule as one computed test.
-use Prim.Native.Nat.{ℕ, ◌+◌, ◌*◌, ◌/◌, ◌%◌, ◌<◌}
+use Prim.Native.Nat.{ℕ, zero, suc, ◌+◌, ◌*◌, ◌/◌, ◌%◌, ◌≤◌, ◌<◌}
 use mathlib.Core.Path.{◌≡◌, refl, sym, ap, ◌∙◌}
 use mathlib.Core.Bool.{Bool}
 use mathlib.Core.List.{List, [], ◌∷◌}
+use native.Mathlib.Omega.{arith}
 use lib.Dec.{eqb}
 use lib.ListN.{get_or}
 use borrow.Author.Tests.{eqb-true}
@@ -54,8 +55,23 @@ pub table_right : (i : ℕ) → i < 128 → get_or table i 0 ≡ pair (4 * (i / 
 unfolding table right pair shifts shifted
 table_right i h = eqb-true (get_or table i 0) (pair (4 * (i / 16 + 1)) (i % 16)) (below right 128 refl i h)
 
--- ---- a table as a `match`: an arm by its number
+-- ---- a table as a `match`: an arm by its number, and the last by being none of those before it
 
 -- the entry of an arm, by its place among all
 pub entry : (j : ℕ) {n v : ℕ} → v ≡ get_or table j 0 → j < 128 → n ≡ j % 16 → v ≡ pair (4 * (j / 16 + 1)) n
 entry j e h at = e ∙ table_right j h ∙ ap (pair (4 * (j / 16 + 1))) (sym at)
+
+-- none of the numbers below k
+abbrev pub NoneBelow : ℕ → ℕ → Type 0
+NoneBelow n zero = Unit {0}
+NoneBelow n (suc k) = NoneBelow n k × (n ≡ k → ⊥)
+
+none_below : (n k : ℕ) → NoneBelow n k → k ≤ n
+none_below n zero h = omega arith
+none_below n (suc k) h =
+    let l : k ≤ n = none_below n k h.0 in
+    let d : n ≡ k → ⊥ = h.1 in
+    omega arith
+
+pub the_last : (n : ℕ) → n < 16 → NoneBelow n 15 → n ≡ 15
+the_last n h none = omega (arith, none_below n 15 none)
