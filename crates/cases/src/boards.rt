@@ -1,7 +1,6 @@
 // The board: "board buffer not 7,680 or a slot's text length over 960".
 use crate::say;
 use board::{Board, Slot};
-use channel::Newest as Shown;
 use record::Seq;
 use std::io;
 
@@ -10,7 +9,7 @@ fn showing(length: usize) -> Board {
     let fresh = Board::new();
     let mut slots = fresh.slots;
     slots[7] = Slot {
-        shown: Shown::Record(Seq(9)),
+        shown: Some(Seq(9)),
         size: length,
     };
     Board { slots }
@@ -20,8 +19,8 @@ fn showing(length: usize) -> Board {
 fn shows(slot: Slot, number: u64, length: usize) -> bool {
     let shown = slot.shown;
     let n = match shown {
-        Shown::Nothing => 0,
-        Shown::Record(n) => n.0,
+        None => 0,
+        Some(n) => n.0,
     };
     (n == number) & (slot.size == length)
 }

@@ -1,7 +1,6 @@
 // The joiner: "texts buffer not 7,680, an open length over 960, either result under 960"; a close has one result.
 use crate::say;
-use channel::Newest;
-use joiner::{Answer, Joiner, Length, Slot};
+use joiner::{Answer, Joiner, Slot};
 use record::Seq;
 use std::io;
 
@@ -10,9 +9,9 @@ fn holding(length: usize) -> Joiner {
     let fresh = Joiner::new();
     let mut slots = fresh.slots;
     slots[7] = Slot {
-        text: Length::Bytes(length),
+        text: Some(length),
     };
-    let last = Newest::Record(Seq(9));
+    let last = Some(Seq(9));
     Joiner { slots, last }
 }
 
@@ -20,16 +19,16 @@ fn holding(length: usize) -> Joiner {
 fn is_long(slot: Slot, length: usize) -> bool {
     let text = slot.text;
     let n = match text {
-        Length::Nothing => 0,
-        Length::Bytes(n) => n,
+        None => 0,
+        Some(n) => n,
     };
     n == length
 }
 
-fn is_ninth(last: Newest) -> bool {
+fn is_ninth(last: Option<Seq>) -> bool {
     let n = match last {
-        Newest::Nothing => 0,
-        Newest::Record(n) => n.0,
+        None => 0,
+        Some(n) => n.0,
     };
     n == 9
 }

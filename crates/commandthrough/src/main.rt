@@ -5,10 +5,9 @@
 // is), the log's capacity; the command's type, its len, and how often it is asked.
 #![tactic(auto)]
 
-use eventlog::{Answer, Log};
-use number::Decimal;
+use eventlog::Log;
+use number::DecimalError;
 use record::Heading;
-use slices::Found;
 use std::io;
 use syslog::Asked;
 
@@ -68,10 +67,10 @@ fn number_at(s: &[u8], at: usize, stop: u8, most: u64) -> Read {
         return Read::Nothing;
     }
     let rest = &s[at..];
-    let Found::At(end) = slices::find(rest, stop) else {
+    let Some(end) = slices::find(rest, stop) else {
         return Read::Nothing;
     };
-    let Decimal::Value(value) = number::read_decimal(slices::front(rest, end), most) else {
+    let Ok(value) = number::read_decimal(slices::front(rest, end), most) else {
         return Read::Nothing;
     };
     let behind = at.wrapping_add(end);
@@ -167,10 +166,10 @@ fn fill(buffer: &mut [u8], text: &[u8]) -> Log {
 // ---- the commands
 
 // What a command counts; nothing where it is refused.
-fn count_of(answer: Answer) -> u64 {
+fn count_of(answer: Result<u32, Refusal>) -> u64 {
     match answer {
-        Answer::Done(count) => count as u64,
-        Answer::No(_) => 0,
+        Ok(count) => count as u64,
+        Err(_) => 0,
     }
 }
 

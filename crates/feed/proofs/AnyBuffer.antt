@@ -1,5 +1,6 @@
 -- Two boards with the same slots over buffers of one length, where every slot that shows a record shows the same text: each
 -- delivery leaves two such boards, and their reports are one.
+use Rattle.std.specs.Prelude.{Option, Some, None}
 use Prim.Native.Nat.{ℕ, zero, suc, ◌+◌, ◌*◌}
 use mathlib.Core.Path.{◌≡◌, refl, ap, sym, ◌∙◌}
 use mathlib.Core.Bool.{Bool, true, false, cond}
@@ -17,8 +18,6 @@ use Rattle.number.specs.Decimal.{decimal}
 use Rattle.escape.specs.Escape.{kmsg_bytes}
 use Rattle.record.specs.declared.Seq.{Seq}
 use Rattle.message.specs.Message.{Reading, reading}
-use Rattle.channel.specs.declared.Newest.{Newest as Shown}
-use Rattle.channel.specs.declared.Newest.TheVariants.{Nothing as nothing, Record as record_of}
 use Rattle.channel.proofs.ChannelLaws.{channel-below}
 use Rattle.channel.proofs.TextLaws.{other_text}
 use Rattle.board.specs.Board.{state, fresh, channels, slot_size, facility_first, empty_slot, lacks_room, channel, board_refusal, show, deliver}
@@ -32,7 +31,7 @@ use Rattle.feed.proofs.FeedLaws.{after, deliver-taken, deliver-refused}
 record Alike (slots : List Slot) (a b : List ℕ) : Type 0 where
   size : length a ≡ length b
   eight : length slots ≡ channels
-  texts : (i : ℕ) (s : Seq) → (get_or slots i empty_slot).shown ≡ record_of s → shown_text (state slots a) i ≡ shown_text (state slots b) i
+  texts : (i : ℕ) (s : Seq) → (get_or slots i empty_slot).shown ≡ Some s → shown_text (state slots a) i ≡ shown_text (state slots b) i
 
 -- ---- a delivery
 
@@ -43,7 +42,7 @@ same-refusal slots a b m e = rw e
 
 -- the slot of a message's channel, once it shows it
 abbrev new_slot : Reading → Slot
-new_slot r = record { shown = record_of (record { 0 = r.sequence }); size = length r.text }
+new_slot r = record { shown = Some (record { 0 = r.sequence }); size = length r.text }
 
 module _ (slots : List Slot) (a b m : List ℕ) (k : Alike slots a b) (e : board_refusal (state slots a) m ≡ 0) where
   abbrev here : ℕ
@@ -76,7 +75,7 @@ module _ (slots : List Slot) (a b m : List ℕ) (k : Alike slots a b) (e : board
       rw (get_or-set_other slots here i (new_slot (reading m)) empty_slot n)
       (other_text buffer here new (taken-room w) (taken-text w) i n (get_or slots i empty_slot).size (slot-fits slots (taken-fit w) i))
 
-  same_text : (i : ℕ) (s : Seq) → (get_or slots' i empty_slot).shown ≡ record_of s → text' a i ≡ text' b i
+  same_text : (i : ℕ) (s : Seq) → (get_or slots' i empty_slot).shown ≡ Some s → text' a i ≡ text' b i
   same_text i s p = go (eqb i here) refl
     where
       go : (z : Bool) → eqb i here ≡ z → text' a i ≡ text' b i
@@ -100,9 +99,9 @@ line_same : (slots : List Slot) (a b : List ℕ) → Alike slots a b → (i : �
 unfolding channel_line
 line_same slots a b k i = go (get_or slots i empty_slot).shown refl
   where
-    go : (o : Shown) → (get_or slots i empty_slot).shown ≡ o → line_of (state slots a) i o ≡ line_of (state slots b) i o
-    go nothing e = refl
-    go (record_of s) e =
+    go : (o : Option Seq) → (get_or slots i empty_slot).shown ≡ o → line_of (state slots a) i o ≡ line_of (state slots b) i o
+    go None e = refl
+    go (Some s) e =
         ap (λ (x : List ℕ). decimal (facility_first + i) ++ (32 ∷ (decimal s.0 ++ (32 ∷ (kmsg_bytes x ++ (10 ∷ [])))))) (k.texts i s e)
 
 lines_same : (slots : List Slot) (a b : List ℕ) → Alike slots a b → (i n : ℕ) → channel_lines (state slots a) i n ≡ channel_lines (state slots b) i n
@@ -138,12 +137,12 @@ feed_same slots a b n (m ∷ ms) k =
         (ih slots a b _ k)
 
 -- no slot of a fresh board shows anything
-none-shown : (n i : ℕ) → (get_or (replicate n empty_slot) i empty_slot).shown ≡ nothing
+none-shown : (n i : ℕ) → (get_or (replicate n empty_slot) i empty_slot).shown ≡ None
 none-shown zero i = refl
 none-shown (suc n) zero = refl
 none-shown (suc n) (suc i) = none-shown n i
 
-never : {s : Seq} → record_of s ≡ nothing → ⊥
+never : {s : Seq} → Some s ≡ None → ⊥
 never e = let z : ◌≡◌ {A = ℕ} 0 1 = cc in omega arith
 
 pub any_buffer_lem : AnyBuffer

@@ -1,4 +1,5 @@
 -- The board's buffer, kept before a feed and put back behind it, is as it was.
+use Rattle.std.specs.Prelude.{Option, Some, None}
 use Prim.Native.Nat.{ℕ, ◌+◌}
 use mathlib.Core.Path.{◌≡◌, refl, ap, sym, ◌∙◌}
 use mathlib.Core.Bool.{Bool, true, false}
@@ -8,8 +9,6 @@ use lib.Dec.{eqb}
 use lib.ListN.{length, drop_of_length-le}
 use borrow.Author.Tests.{eq-eqb, ne_eqb, eqb-true, eqb-false, le-leb, lt-leb}
 use Rattle.slices.specs.Put.{put, Left, left, placed}
-use Rattle.slices.specs.declared.Placed.{Placed}
-use Rattle.slices.specs.declared.Placed.TheVariants.{End, NoRoom}
 use Rattle.slices.proofs.PutLaws.{placed-room}
 use Rattle.board.specs.Board.{State, buffer_size, fresh, lacks_room}
 use Rattle.feed.specs.Feed.{Fed, feed_all, report}
@@ -22,24 +21,24 @@ module _ (out bytes : List ℕ) (e : length out ≡ length bytes) where
   put_whole : put out 0 bytes ≡ bytes
   put_whole = rw (drop_of_length-le out {i = 0 + length bytes} (omega arith), append-nil)
 
-  copied-whole : {r : Placed} {out' : List ℕ} → left r out' ≡ placed out 0 bytes → out' ≡ bytes
+  copied-whole : {r : Option ℕ} {out' : List ℕ} → left r out' ≡ placed out 0 bytes → out' ≡ bytes
   copied-whole f = ap (λ (x : Left). x.buffer) (f ∙ placed-room out 0 bytes (omega arith)) ∙ put_whole
 
 -- ---- put back
 
 module _ (kept buffer : List ℕ) where
-  pub restored_same : length buffer ≡ length kept → {r : Placed} {buffer' : List ℕ} → left r buffer' ≡ placed buffer 0 kept → buffer' ≡ restored kept buffer
+  pub restored_same : length buffer ≡ length kept → {r : Option ℕ} {buffer' : List ℕ} → left r buffer' ≡ placed buffer 0 kept → buffer' ≡ restored kept buffer
   restored_same e f = rw (eq-eqb (length buffer) (length kept) e) (copied-whole buffer kept e f)
 
   pub restored-other : (length buffer ≡ length kept → ⊥) → buffer ≡ restored kept buffer
   restored-other n = rw (ne_eqb (length buffer) (length kept) n)
 
 -- only where there is no room for the report
-module _ (kept out : List ℕ) (f : Fed) {r : Placed} {out' : List ℕ} (e : left r out' ≡ placed out 0 (report f)) where
-  pub settled-room : {k : ℕ} → r ≡ End k → f.board.buffer ≡ settled kept f (length out)
+module _ (kept out : List ℕ) (f : Fed) {r : Option ℕ} {out' : List ℕ} (e : left r out' ≡ placed out 0 (report f)) where
+  pub settled-room : {k : ℕ} → r ≡ Some k → f.board.buffer ≡ settled kept f (length out)
   settled-room q = rw (le-leb (length (report f)) (length out) (omega (arith, placed-fits out 0 (report f) e q)))
 
-  pub settled-full : r ≡ NoRoom → restored kept f.board.buffer ≡ settled kept f (length out)
+  pub settled-full : r ≡ None → restored kept f.board.buffer ≡ settled kept f (length out)
   settled-full q = rw (lt-leb (length (report f)) (length out) (omega (arith, placed-full out 0 (report f) e q)))
 
 -- ---- kept
@@ -54,7 +53,7 @@ unfolding fresh
 fresh-buffer buffer = refl
 
 -- what was copied from the buffer before a feed restores it
-pub kept_restores : (blank buffer : List ℕ) (ms : List (List ℕ)) (f : Fed) {r : Placed} {kept : List ℕ}
+pub kept_restores : (blank buffer : List ℕ) (ms : List (List ℕ)) (f : Fed) {r : Option ℕ} {kept : List ℕ}
     → length blank ≡ buffer_size → length kept ≡ buffer_size → left r kept ≡ placed blank 0 buffer
     → f ≡ feed_all (fresh buffer) 0 ms → length f.board.buffer ≡ length buffer
     → restored kept f.board.buffer ≡ buffer

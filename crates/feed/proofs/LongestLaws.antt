@@ -1,4 +1,5 @@
 -- No report is longer than the longest: texts and numbers on a board that was fed fit their slots and their words.
+use Rattle.std.specs.Prelude.{Option, Some, None}
 use Prim.Native.Nat.{ℕ, zero, suc, ◌+◌, ◌*◌, ◌≤◌, ◌<◌}
 use mathlib.Core.Path.{◌≡◌, refl}
 use mathlib.Core.Bool.{Bool, true, false, ◌&&◌, not, cond}
@@ -19,13 +20,12 @@ use Rattle.record.specs.Limits.{word_most, prefix_most}
 use Rattle.header.specs.Header.{field, is_number, lacks_number}
 use Rattle.message.specs.Message.{text, dictionary, is_bulky, reading}
 use Rattle.message.proofs.AcceptLaws.{Clear, clear}
-use Rattle.channel.specs.declared.Newest.{Newest as Shown}
-use Rattle.channel.specs.declared.Newest.TheVariants.{Nothing as nothing, Record as record_of}
 use Rattle.board.specs.Board.{State, channels, empty_slot, fresh, slot, slot_size, facility_first, slot_fits, channel, board_refusal, show, Delivered, deliver}
 use Rattle.board.specs.declared.Slot.{Slot}
 use Rattle.board.proofs.TakenLaws.{taken}
 use Rattle.feed.specs.Feed.{input_most, messages, Fed, count_refused, feed_all, shown_text, line_of, channel_line, channel_lines, report, output}
 use Rattle.feed.specs.Longest.{line_most, report_most, LongestReport}
+use Rattle.record.specs.declared.Seq.{Seq}
 
 -- ---- a test of every slot
 
@@ -41,9 +41,9 @@ module _ (p : Slot → Bool) where
   every_set (t ∷ ss) e (suc i) s h = rw (every_first p t ss e) (every_set ss (every-other p t ss e) i s h)
 
 -- a text that fits its slot, and a number that fits a word
-abbrev number_fits : Shown → Bool
-number_fits nothing = true
-number_fits (record_of n) = leb n.0 word_most
+abbrev number_fits : Option Seq → Bool
+number_fits None = true
+number_fits (Some n) = leb n.0 word_most
 
 abbrev small : Slot → Bool
 small s = slot_fits s && number_fits s.shown
@@ -119,9 +119,9 @@ line-most b i h e = go (slot b i).shown (and_right (slot_fits (slot b i)) (numbe
         let l : length (shown_text b i) ≤ (slot b i).size = rw length-take (omega arith) in
         omega (arith, kmsg_most (shown_text b i), leb-true (slot b i).size slot_size (and_left (slot_fits (slot b i)) (number_fits (slot b i).shown) s))
 
-    go : (o : Shown) → number_fits o ≡ true → length (line_of b i o) ≤ line_most
-    go nothing q = omega arith
-    go (record_of n) q =
+    go : (o : Option Seq) → number_fits o ≡ true → length (line_of b i o) ≤ line_most
+    go None q = omega arith
+    go (Some n) q =
         simp length-append
         (omega (arith, decimal-most 1 (facility_first + i) (omega arith), decimal-most 19 n.0 (omega (arith, leb-true n.0 word_most q)), t))
 

@@ -1,15 +1,14 @@
 -- A report: its lines and its last line, measured whole, then written whole or not at all.
+use Rattle.std.specs.Prelude.{Some, None}
 use Prim.Native.Nat.{ℕ, ◌+◌, ◌-◌, ◌≤◌, ◌<◌}
 use mathlib.Core.Path.{◌≡◌, refl, sym}
 use mathlib.Core.List.{List, ◌++◌}
 use native.Mathlib.Omega.{arith}
 use lib.ListN.{length, length-append}
 use Rattle.slices.specs.Put.{left, placed}
-use Rattle.slices.specs.declared.Placed.TheVariants.{End, NoRoom}
 use Rattle.slices.proofs.PutLaws.{placed-none}
 use Rattle.number.specs.Decimal.{decimal}
 use Rattle.escape.specs.Answers.{Written}
-use Rattle.escape.specs.declared.Measured.TheVariants.{Length, TooLong}
 use Rattle.escape.proofs.AnswerLaws.{written-placed}
 use Rattle.board.specs.Board.{State, channels}
 use Rattle.feed.specs.Feed.{fed, channel_lines, report}
@@ -34,15 +33,15 @@ module _ (b : State) (n : ℕ) where
   report_counts = rw (report-parts, length-append, refused_counts)
 
   module _ (out : List ℕ) {d : ℕ} (e : d ≡ length (decimal n)) where
-    pub last-over : length out < d + 9 → left NoRoom out ≡ placed out 0 (report (fed b n))
+    pub last-over : length out < d + 9 → left None out ≡ placed out 0 (report (fed b n))
     last-over h = sym (placed-none out 0 (report (fed b n)) (omega (arith, report_counts)))
 
-    pub lines-over : measured (length out - (d + 9)) lines ≡ TooLong → left NoRoom out ≡ placed out 0 (report (fed b n))
+    pub lines-over : measured (length out - (d + 9)) lines ≡ None → left None out ≡ placed out 0 (report (fed b n))
     lines-over m = sym (placed-none out 0 (report (fed b n)) (omega (arith, report_counts, over-said (length out - (d + 9)) lines m)))
 
-    pub report-room : {l : ℕ} → d + 9 ≤ length out → measured (length out - (d + 9)) lines ≡ Length l → 0 + length (lines ++ refused_line n) ≤ length out
+    pub report-room : {l : ℕ} → d + 9 ≤ length out → measured (length out - (d + 9)) lines ≡ Some l → 0 + length (lines ++ refused_line n) ≤ length out
     report-room h m = rw (length-append, refused_counts) (omega (arith, length-said (length out - (d + 9)) lines m))
 
   pub report-written : {out out₁ out₂ : List ℕ} {k k₂ : ℕ} → 0 + length (lines ++ refused_line n) ≤ length out → Written out 0 lines k out₁
-      → Written out₁ k (refused_line n) k₂ out₂ → left (End k₂) out₂ ≡ placed out 0 (report (fed b n))
+      → Written out₁ k (refused_line n) k₂ out₂ → left (Some k₂) out₂ ≡ placed out 0 (report (fed b n))
   report-written {out} h w v = rw report-parts (written-placed out 0 (lines ++ refused_line n) h (written_both lines (refused_line n) h w v))

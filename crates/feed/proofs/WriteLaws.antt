@@ -1,4 +1,5 @@
 -- A report written where there is room for all of it: each part moves the place on, and what is left to write fits behind it.
+use Rattle.std.specs.Prelude.{Option, Some, None}
 use Prim.Native.Nat.{ℕ, ◌+◌, ◌-◌, ◌≤◌, ◌<◌}
 use mathlib.Core.Path.{◌≡◌, refl, ap, sym}
 use mathlib.Core.Bool.{Bool, true, false, cond}
@@ -8,8 +9,6 @@ use lib.Dec.{leb}
 use lib.ListN.{length, take, set, length-append}
 use borrow.Author.Tests.{leb-true, leb-false}
 use Rattle.slices.specs.Put.{put, Left, left, placed}
-use Rattle.slices.specs.declared.Placed.TheVariants.{End, NoRoom}
-use Rattle.slices.specs.declared.Placed.{Placed}
 use Rattle.slices.proofs.PutLaws.{sets-put, length-put, put-append, put-none}
 use Rattle.slices.proofs.PutReads.{put-there}
 use Rattle.slices.proofs.FillLaws.{Filling, fill_begin, fill_fits-run, fill_on-run, fill_end}
@@ -20,41 +19,41 @@ use Rattle.feed.proofs.MeasureLaws.{lines_step, lines_end}
 
 -- ---- what a call that puts bytes says by its answer
 
-module _ (out : List ℕ) (at : ℕ) (bytes : List ℕ) {r : Placed} {out' : List ℕ} (e : left r out' ≡ placed out at bytes) where
-  pub placed_end : {k : ℕ} → r ≡ End k → Written out at bytes k out'
+module _ (out : List ℕ) (at : ℕ) (bytes : List ℕ) {r : Option ℕ} {out' : List ℕ} (e : left r out' ≡ placed out at bytes) where
+  pub placed_end : {k : ℕ} → r ≡ Some k → Written out at bytes k out'
   unfolding placed
   placed_end {k} q = go (leb (at + length bytes) (length out)) e
     where
-      go : (t : Bool) → left r out' ≡ cond t (left (End (at + length bytes)) (put out at bytes)) (left NoRoom out) → Written out at bytes k out'
+      go : (t : Bool) → left r out' ≡ cond t (left (Some (at + length bytes)) (put out at bytes)) (left None out) → Written out at bytes k out'
       go true e =
-          let a : r ≡ End (at + length bytes) = ap (λ (l : Left). l.answer) e in
+          let a : r ≡ Some (at + length bytes) = ap (λ (l : Left). l.answer) e in
           record { place = cc; buffer = ap (λ (l : Left). l.buffer) e }
       go false e =
-          let a : r ≡ NoRoom = ap (λ (l : Left). l.answer) e in
+          let a : r ≡ None = ap (λ (l : Left). l.answer) e in
           let z : ◌≡◌ {A = ℕ} 0 1 = cc in
           absurd (omega arith)
 
-  pub placed-full : r ≡ NoRoom → length out < at + length bytes
+  pub placed-full : r ≡ None → length out < at + length bytes
   unfolding placed
   placed-full q = go (leb (at + length bytes) (length out)) refl e
     where
-      go : (t : Bool) → leb (at + length bytes) (length out) ≡ t → left r out' ≡ cond t (left (End (at + length bytes)) (put out at bytes)) (left NoRoom out)
+      go : (t : Bool) → leb (at + length bytes) (length out) ≡ t → left r out' ≡ cond t (left (Some (at + length bytes)) (put out at bytes)) (left None out)
           → length out < at + length bytes
       go true p e =
-          let a : r ≡ End (at + length bytes) = ap (λ (l : Left). l.answer) e in
+          let a : r ≡ Some (at + length bytes) = ap (λ (l : Left). l.answer) e in
           let z : ◌≡◌ {A = ℕ} 0 1 = cc in
           absurd (omega arith)
       go false p e = leb-false (at + length bytes) (length out) p
 
-  pub placed-fits : {k : ℕ} → r ≡ End k → at + length bytes ≤ length out
+  pub placed-fits : {k : ℕ} → r ≡ Some k → at + length bytes ≤ length out
   unfolding placed
   placed-fits {k} q = go (leb (at + length bytes) (length out)) refl e
     where
-      go : (t : Bool) → leb (at + length bytes) (length out) ≡ t → left r out' ≡ cond t (left (End (at + length bytes)) (put out at bytes)) (left NoRoom out)
+      go : (t : Bool) → leb (at + length bytes) (length out) ≡ t → left r out' ≡ cond t (left (Some (at + length bytes)) (put out at bytes)) (left None out)
           → at + length bytes ≤ length out
       go true p e = leb-true (at + length bytes) (length out) p
       go false p e =
-          let a : r ≡ NoRoom = ap (λ (l : Left). l.answer) e in
+          let a : r ≡ None = ap (λ (l : Left). l.answer) e in
           let z : ◌≡◌ {A = ℕ} 0 1 = cc in
           absurd (omega arith)
 

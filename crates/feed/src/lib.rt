@@ -9,10 +9,7 @@ ghost use Rattle.feed.specs.Feed.{messages, message_length, fed, count_refused, 
 ghost use Rattle.feed.specs.Printing.{measured, field, shown_line, refused_line};
 ghost use Rattle.feed.specs.Kept.{restored, settled};
 
-use board::{Answer, Board, Slot};
-use channel::Newest as Shown;
-use escape::Measured;
-use slices::Placed;
+use board::{Board, Slot};
 
 // The channel of the first slot.
 const FIRST: usize = Board::FIRST as usize;
@@ -50,7 +47,7 @@ pub fn message_length(s: &[u8]) -> usize
 }
 
 // 1 for a refusal, 0 for none.
-fn count_refused(answer: Answer) -> u64
+fn count_refused(answer: Result<(), u32>) -> u64
     ensures { (result ≡ count_refused (answer_number answer)) × (result ≤ 1) }
 {
     if board::answer_number(answer) == 0 {
@@ -93,24 +90,24 @@ fn slot_text(buffer: &[u8], i: usize, size: usize) -> &[u8]
 }
 
 // How many bytes a channel's line has, if no more than `most`.
-fn line_length(channel: usize, shown: Shown, text: &[u8], most: usize) -> Measured
+fn line_length(channel: usize, shown: Option<Seq>, text: &[u8], most: usize) -> Option<usize>
     ensures { result ≡ measured most (shown_line channel shown text.now) }
 {
-    let Shown::Record(number) = shown else {
-        return Measured::Length(0);
+    let Some(number) = shown else {
+        return Some(0);
     };
     let numbers = number::decimal_length(channel as u64) + number::decimal_length(number.0) + 3;
     if most < numbers {
-        return Measured::TooLong;
+        return None;
     }
-    let Measured::Length(n) = escape::kmsg_length(text, most - numbers) else {
-        return Measured::TooLong;
+    let Some(n) = escape::kmsg_length(text, most - numbers) else {
+        return None;
     };
-    Measured::Length(numbers + n)
+    Some(numbers + n)
 }
 
 // How many bytes the lines of all channels have, if no more than `most`.
-fn lines_length(slots: [Slot; Board::SLOTS], buffer: &[u8], most: usize) -> Measured
+fn lines_length(slots: [Slot; Board::SLOTS], buffer: &[u8], most: usize) -> Option<usize>
     ensures { result ≡ measured most (channel_lines (state slots buffer.now) 0 channels) }
 {
     let mut room = most;
@@ -119,14 +116,14 @@ fn lines_length(slots: [Slot; Board::SLOTS], buffer: &[u8], most: usize) -> Meas
         let slot = slots[i];
         let shown = slot.shown;
         let size = slot.size;
-        let Measured::Length(n) = line_length(FIRST + i, shown, slot_text(buffer, i, size), room)
+        let Some(n) = line_length(FIRST + i, shown, slot_text(buffer, i, size), room)
         else {
-            return Measured::TooLong;
+            return None;
         };
         room -= n;
         i += 1;
     }
-    Measured::Length(most - room)
+    Some(most - room)
 }
 
 // A number and a byte behind it, put at a place where there is room for them; the place behind them.
@@ -134,7 +131,7 @@ pub fn write_field(number: u64, end: u8, out: &mut [u8], at: usize) -> usize
     requires { at + length (field number end) ≤ length out.old }
     ensures { Written out.old at (field number end) result out.new }
 {
-    let Placed::End(k) = number::print_decimal(number, out, at) else {
+    let Some(k) = number::print_decimal(number, out, at) else {
         return at;
     };
     out[k] = end;
@@ -142,11 +139,11 @@ pub fn write_field(number: u64, end: u8, out: &mut [u8], at: usize) -> usize
 }
 
 // A channel's line, put at a place where there is room for it; the place behind it.
-fn write_line(channel: usize, shown: Shown, text: &[u8], out: &mut [u8], at: usize) -> usize
+fn write_line(channel: usize, shown: Option<Seq>, text: &[u8], out: &mut [u8], at: usize) -> usize
     requires { at + length (shown_line channel shown text.now) ≤ length out.old }
     ensures { Written out.old at (shown_line channel shown text.now) result out.new }
 {
-    let Shown::Record(number) = shown else {
+    let Some(number) = shown else {
         return at;
     };
     let second = write_field(channel as u64, b' ', out, at);
@@ -178,26 +175,26 @@ pub fn write_refused(refused: u64, out: &mut [u8], at: usize) -> usize
     requires { at + length (refused_line refused) ≤ length out.old }
     ensures { Written out.old at (refused_line refused) result out.new }
 {
-    let Placed::End(k) = slices::copy(b"refused ", out, at) else {
+    let Some(k) = slices::copy(b"refused ", out, at) else {
         return at;
     };
     write_field(refused, b'\n', out, k)
 }
 
 // What a board shows and how many messages were refused, put into a buffer if there is room: measured before a byte is written.
-pub fn print(board: Board, buffer: &[u8], refused: u64, out: &mut [u8]) -> Placed
+pub fn print(board: Board, buffer: &[u8], refused: u64, out: &mut [u8]) -> Option<usize>
     ensures { left result out.new ≡ placed out.old 0 (report (fed (state board.slots buffer.now) refused)) }
 {
     let last = number::decimal_length(refused) + 9;
     if out.len() < last {
-        return Placed::NoRoom;
+        return None;
     }
     let slots = board.slots;
-    let Measured::Length(_) = lines_length(slots, buffer, out.len() - last) else {
-        return Placed::NoRoom;
+    let Some(_) = lines_length(slots, buffer, out.len() - last) else {
+        return None;
     };
     let at = write_lines(slots, buffer, out);
-    Placed::End(write_refused(refused, out, at))
+    Some(write_refused(refused, out, at))
 }
 
 // The kept bytes, put back into the board's buffer. A buffer of another length was never written.
@@ -210,23 +207,23 @@ fn restore(kept: &[u8], buffer: &mut [u8])
 }
 
 // The report of a feed, put into a buffer; or, without room for it, the board's buffer as it was kept.
-fn print_or_restore(r: Received, kept: &[u8], buffer: &mut [u8], out: &mut [u8]) -> Placed
+fn print_or_restore(r: Received, kept: &[u8], buffer: &mut [u8], out: &mut [u8]) -> Option<usize>
     ensures out_after { left result out.new ≡ placed out.old 0 (report (fed (state r.board.slots buffer.old) r.refused)) }
     ensures buffer_after { buffer.new ≡ settled kept.now (fed (state r.board.slots buffer.old) r.refused) (length out.old) }
 {
     let board = r.board;
     match print(board, buffer, r.refused, out) {
-        Placed::End(end) => Placed::End(end),
-        Placed::NoRoom => {
+        Some(end) => Some(end),
+        None => {
             restore(kept, buffer);
-            Placed::NoRoom
+            None
         }
     }
 }
 
 // The receiver program: what is written for this input, put into a buffer if there is room. Without room all is as it was: for
 // that the board's buffer, 7,680 bytes, is kept on the stack while it is fed.
-pub fn run(input: &[u8], buffer: &mut [u8], out: &mut [u8]) -> Placed
+pub fn run(input: &[u8], buffer: &mut [u8], out: &mut [u8]) -> Option<usize>
     ensures out_after { left result out.new ≡ placed out.old 0 (output buffer.old input.now) }
     ensures buffer_after { buffer.new ≡ buffer_after buffer.old input.now (length out.old) }
 {

@@ -1,5 +1,6 @@
 -- Demand 2: the log and the history agree, call after call. The log's view is what the history holds; only a write touches the
 -- ring, and its laws know no history.
+use Rattle.std.specs.Prelude.{Ok}
 use Prim.Native.Nat.{ℕ, ◌+◌, ◌-◌, ◌≤◌}
 use mathlib.Core.Path.{◌≡◌, refl, ap, ap₂, sym, ◌∙◌}
 use mathlib.Core.Bool.{Bool, true, false}
@@ -17,7 +18,6 @@ use Rattle.eventlog.specs.View.{Marks, View, next_of}
 use Rattle.eventlog.specs.Check.{fresh_log, records_in, checked, marks_of, view_of, with_marks, ruled}
 use Rattle.eventlog.specs.Excess.{excess}
 use Rattle.store.specs.Write.{dropped_by, written_log, written_buffer}
-use Rattle.eventlog.specs.declared.Verdict.TheVariants.{Fine}
 use Rattle.store.proofs.StoredLaws.{Storable}
 use Rattle.store.proofs.HoldsLaws.{Holds, goes, grown, dropped-is, length-written, holds_written, written_view}
 use Rattle.store.proofs.MarkLaws.{fine}
@@ -65,7 +65,7 @@ module _ (s : State) (p : Past) (a : Agrees s p) (ok : Sound p) where
   setting-is = ap (λ (m : Marks). m.setting) marks_are
 
   -- the log check passes, and the call goes on from what the history holds
-  pub is-fine : checked s.log s.buffer ≡ Fine
+  pub is-fine : checked s.log s.buffer ≡ Ok tt
   unfolding held
   is-fine = fine s.log s.buffer (held p).records a.holds (rw (marks_are, first-is) ok.marked) (rw capacity-is ok.large) a.small
 

@@ -1,4 +1,5 @@
 -- Off and on keep the level: once it is saved, no call but command 7 touches the save, and the log's setting is the history's.
+use Rattle.std.specs.Prelude.{Some, None}
 use Prim.Native.Nat.{ℕ}
 use mathlib.Core.Path.{◌≡◌, refl, ap, ◌∙◌}
 use mathlib.Core.Bool.{Bool, true, false, cond, false≢true}
@@ -9,7 +10,6 @@ use lib.IntN.{ℤ, pos, negsuc}
 use lib.ListN.{length}
 use Rattle.console.specs.Console.{turned_off, turned_on, set_to}
 use Rattle.console.specs.declared.Console.{Console}
-use Rattle.console.specs.declared.Saved.TheVariants.{Nothing, Level}
 use Rattle.console.proofs.TurnLaws.{off-saves, off_keeps, set_keeps, minimum_keeps, on_restores, on_empties}
 use Rattle.record.specs.Record.{Record}
 use Rattle.eventlog.specs.Answer.{Ruling, allowed, refused, is, natural}
@@ -50,45 +50,45 @@ barred : (v : View) (a : Asked) (lent : List ℕ) → a.command ≡ pos 7 → a.
 unfolding command_ruling
 barred v a lent e f = rw (e, f)
 
-module _ (p : Past) (m : ℕ) (saved : (setting_in p).saved ≡ Level m) where
-  write_keeps : (r : Record) (bytes : ℕ) (q : Ruling) → (setting_in (past_write p r bytes q).past).saved ≡ Level m
+module _ (p : Past) (m : ℕ) (saved : (setting_in p).saved ≡ Some m) where
+  write_keeps : (r : Record) (bytes : ℕ) (q : Ruling) → (setting_in (past_write p r bytes q).past).saved ≡ Some m
   unfolding past_write
   write_keeps r bytes allowed = saved
   write_keeps r bytes (refused why) = saved
 
-  there_keeps : (t : Bool) (r : Reply) (readers : List ℕ) → (setting_in (if_there {A = Told} t (telling r (readers_at p readers)) (telling nobody p)).past).saved ≡ Level m
+  there_keeps : (t : Bool) (r : Reply) (readers : List ℕ) → (setting_in (if_there {A = Told} t (telling r (readers_at p readers)) (telling nobody p)).past).saved ≡ Some m
   there_keeps true r readers = saved
   there_keeps false r readers = saved
 
-  other_keeps : (a : Asked) (lent : List ℕ) → is a.command 7 ≡ false → (q : Ruling) → (command_by (held p) a lent q).marks.setting.saved ≡ Level m
+  other_keeps : (a : Asked) (lent : List ℕ) → is a.command 7 ≡ false → (q : Ruling) → (command_by (held p) a lent q).marks.setting.saved ≡ Some m
   unfolding command_by marks_after held
   other_keeps a lent e allowed = rw e (go (is a.command 6) (is a.command 8))
     where
-      go : (t u : Bool) → (cond t (turned_off (setting_in p)) (cond u (set_to (setting_in p) (natural a.len)) (setting_in p))).saved ≡ Level m
+      go : (t u : Bool) → (cond t (turned_off (setting_in p)) (cond u (set_to (setting_in p) (natural a.len)) (setting_in p))).saved ≡ Some m
       go true u = off_keeps (setting_in p) m saved
       go false true = set_keeps (setting_in p) (natural a.len) ∙ saved
       go false false = saved
   other_keeps a lent e (refused why) = saved
 
-  refused_keeps : (a : Asked) (lent : List ℕ) (why : Refusal) → (command_by (held p) a lent (refused why)).marks.setting.saved ≡ Level m
+  refused_keeps : (a : Asked) (lent : List ℕ) (why : Refusal) → (command_by (held p) a lent (refused why)).marks.setting.saved ≡ Some m
   unfolding command_by held
   refused_keeps a lent why = saved
 
-  command_keeps : (a : Asked) (lent : List ℕ) → NotOn (command a lent) → (command_by (held p) a lent (command_ruling (held p) a lent)).marks.setting.saved ≡ Level m
+  command_keeps : (a : Asked) (lent : List ℕ) → NotOn (command a lent) → (command_by (held p) a lent (command_ruling (held p) a lent)).marks.setting.saved ≡ Some m
   command_keeps a lent h = go _ refl
     where
-      go : (t : Bool) → is a.command 7 ≡ t → (command_by (held p) a lent (command_ruling (held p) a lent)).marks.setting.saved ≡ Level m
+      go : (t : Bool) → is a.command 7 ≡ t → (command_by (held p) a lent (command_ruling (held p) a lent)).marks.setting.saved ≡ Some m
       go true e =
           let z : a.command ≡ pos 7 = seven a.command e in
           rw (barred (held p) a lent z (h z)) (refused_keeps a lent EPERM)
       go false e = other_keeps a lent e (command_ruling (held p) a lent)
 
-  minimum-leaves : (wanted : ℤ) (q : Ruling) → (minimum_by (held p) wanted q).marks.setting.saved ≡ Level m
+  minimum-leaves : (wanted : ℤ) (q : Ruling) → (minimum_by (held p) wanted q).marks.setting.saved ≡ Some m
   unfolding minimum_by held
   minimum-leaves wanted allowed = minimum_keeps (setting_in p) (natural wanted) ∙ saved
   minimum-leaves wanted (refused why) = saved
 
-  keeps_saved : (c : Call) → NotOn c → (setting_in (past_step p c).past).saved ≡ Level m
+  keeps_saved : (c : Call) → NotOn c → (setting_in (past_step p c).past).saved ≡ Some m
   unfolding past_step
   keeps_saved (outside time bytes caller) h = write_keeps (outside_record (next_number p) time bytes caller) (length bytes) (outside_ruling (held p) bytes)
   keeps_saved (box facility level time text dictionary fragment caller) h =
@@ -105,8 +105,8 @@ module _ (p : Past) (m : ℕ) (saved : (setting_in p).saved ≡ Level m) where
 
 -- ---- runs
 
-restores : (m : ℕ) (cs : List Call) (p : Past) → (setting_in p).saved ≡ Level m → NoneOn cs → (on : Order)
-    → let q = past_after p (cs ++ (ordered 7 on ∷ [])) in ((setting_in q).level ≡ m) × ((setting_in q).saved ≡ Nothing)
+restores : (m : ℕ) (cs : List Call) (p : Past) → (setting_in p).saved ≡ Some m → NoneOn cs → (on : Order)
+    → let q = past_after p (cs ++ (ordered 7 on ∷ [])) in ((setting_in q).level ≡ m) × ((setting_in q).saved ≡ None)
 unfolding past_after
 restores m [] p e n on = rw (on-is p on) (on_restores (setting_in p) m e, on_empties (setting_in p))
 restores m (c ∷ cs) p e n on = restores m cs (past_step p c).past (keeps_saved p m e c n.0) n.1 on

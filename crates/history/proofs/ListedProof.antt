@@ -1,4 +1,5 @@
 -- The log answers as document 01's table lists: each call's ruling is the first of its rows that applies.
+use Rattle.std.specs.Prelude.{Result, Ok, Err, ⊤}
 use Prim.Native.Nat.{ℕ, ◌+◌, ◌*◌, ◌<◌}
 use mathlib.Core.Path.{◌≡◌, refl, ap, sym, ◌∙◌, subst}
 use mathlib.Core.Logic.{◌⊎◌, inl, inr}
@@ -24,8 +25,6 @@ use Rattle.eventlog.specs.View.{View, next_of, record_at}
 use Rattle.eventlog.specs.Check.{checked, view_of, if_fine, ruled}
 use Rattle.eventlog.specs.Excess.{total}
 use Rattle.eventlog.specs.declared.Log.{Log}
-use Rattle.eventlog.specs.declared.Verdict.{Verdict}
-use Rattle.eventlog.specs.declared.Verdict.TheVariants.{Fine, Numbers, Heading}
 use Rattle.eventlog.specs.declared.Refusal.{Refusal}
 use Rattle.eventlog.specs.declared.Refusal.TheVariants.{EBADFD, EPERM, ESPIPE, EINVAL, EFAULT, EOVERFLOW, EPIPE, EAGAIN}
 use Rattle.store.proofs.MarkLaws.{Marked}
@@ -42,6 +41,8 @@ use Rattle.history.specs.Calls.{Call, outside, box, make, place, read, seek, com
 use Rattle.history.specs.Demand1.{Answers, table, table_number}
 use Rattle.history.specs.Listed.{Applies, check_fails, above-next, without_privilege, offset-not_0, other_whence, unknown_type, len-below_0, level-outside, minimum-outside, over_960, over_960_together, zero-byte, bad_facility, bad_level, bad_dictionary, line_longer, above-lent, short_of_image, outside_at_last, box_at_last, below-first, at_next, nothing-unread, read_table, order, Asking, IsCount, Listed, answered}
 use Rattle.history.proofs.ListedTests.{is_says, barred_says, level_says, outside_says, box_says, command_says, nothing, unread_says, lent_says, whence_says, length-image}
+use Rattle.eventlog.specs.declared.Misfit.TheVariants.{Numbers, Heading}
+use Rattle.eventlog.specs.declared.Misfit.{Misfit}
 
 -- ---- a test for each row
 
@@ -298,33 +299,33 @@ rows_apart (minimum wanted) k = numbered code table table_number (pos k) refl
 rows_apart check k = numbered code table table_number (pos k) refl
 rows_apart (console level setting) k = numbered code table table_number (pos k) refl
 
-abbrev pub is_bad : Verdict → Bool
-is_bad Fine = false
-is_bad Numbers = true
-is_bad (Heading i) = true
+abbrev pub is_bad : Result ⊤ Misfit → Bool
+is_bad (Ok tt) = false
+is_bad (Err Numbers) = true
+is_bad (Err (Heading i)) = true
 
-pub bad_not-fine : (x : Verdict) → is_bad x ≡ true → x ≡ Fine → ⊥
+pub bad_not-fine : (x : Result ⊤ Misfit) → is_bad x ≡ true → x ≡ Ok tt → ⊥
 bad_not-fine x e f = false≢true (sym (ap is_bad f) ∙ e)
 
-pub not-fine_bad : (x : Verdict) → (x ≡ Fine → ⊥) → is_bad x ≡ true
-not-fine_bad Fine h = absurd (h refl)
-not-fine_bad Numbers h = refl
-not-fine_bad (Heading i) h = refl
+pub not-fine_bad : (x : Result ⊤ Misfit) → (x ≡ Ok tt → ⊥) → is_bad x ≡ true
+not-fine_bad (Ok tt) h = absurd (h refl)
+not-fine_bad (Err Numbers) h = refl
+not-fine_bad (Err (Heading i)) h = refl
 
-pub fine_of : (x : Verdict) → is_bad x ≡ false → x ≡ Fine
-fine_of Fine e = refl
-fine_of Numbers e = absurd (true≢false e)
-fine_of (Heading i) e = absurd (true≢false e)
+pub fine_of : (x : Result ⊤ Misfit) → is_bad x ≡ false → x ≡ Ok tt
+fine_of (Ok tt) e = refl
+fine_of (Err Numbers) e = absurd (true≢false e)
+fine_of (Err (Heading i)) e = absurd (true≢false e)
 
 pub by_check : (log : Log) (buffer : List ℕ) (ruling : View → Ruling)
     → ruled log buffer ruling ≡ checked_first (is_bad (checked log buffer)) (ruling (view_of log buffer))
 unfolding ruled
 by_check log buffer ruling = go (checked log buffer)
   where
-    go : (x : Verdict) → if_fine x (ruling (view_of log buffer)) ≡ checked_first (is_bad x) (ruling (view_of log buffer))
-    go Fine = refl
-    go Numbers = refl
-    go (Heading i) = refl
+    go : (x : Result ⊤ Misfit) → if_fine x (ruling (view_of log buffer)) ≡ checked_first (is_bad x) (ruling (view_of log buffer))
+    go (Ok tt) = refl
+    go (Err Numbers) = refl
+    go (Err (Heading i)) = refl
 
 pub write_number : (log : Log) (buffer : List ℕ) (r : Record) (bytes : ℕ) (q : Ruling) → (write_by log buffer r bytes q).answer ≡ number_by (pos bytes) q
 unfolding write_by

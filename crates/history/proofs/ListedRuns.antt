@@ -1,4 +1,5 @@
 -- Every call on any log over bytes is refused as the table lists; and every call in every run from a fresh log, in the words of the history.
+use Rattle.std.specs.Prelude.{Ok}
 use mathlib.Core.Path.{◌≡◌, ap, sym, ◌∙◌, subst}
 use mathlib.Core.Bool.{false, false≢true}
 use mathlib.Core.List.{List}
@@ -6,7 +7,6 @@ use Prim.Native.Nat.{ℕ}
 use lib.ListN.{length}
 use Rattle.eventlog.specs.View.{View}
 use Rattle.eventlog.specs.Check.{checked, view_of}
-use Rattle.eventlog.specs.declared.Verdict.TheVariants.{Fine}
 use Rattle.store.proofs.FineHolds.{fine_marked}
 use Rattle.history.specs.Calls.{Call, State}
 use Rattle.history.specs.Past.{Past, held, fresh_past}
@@ -31,7 +31,7 @@ pub refused_as_listed : RefusedAsListed
 unfolding view_of
 refused_as_listed s bytes c h =
     let x = checked s.log s.buffer in
-    listed s (x ≡ Fine → ⊥) (bad_not-fine x) (not-fine_bad x) (λ e. fine_marked s.log s.buffer (fine_of x e) bytes) c h
+    listed s (x ≡ Ok tt → ⊥) (bad_not-fine x) (not-fine_bad x) (λ e. fine_marked s.log s.buffer (fine_of x e) bytes) c h
 
 pub runs_as_listed : RunsAsListed
 runs_as_listed buffer l h before t =

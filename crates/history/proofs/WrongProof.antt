@@ -1,4 +1,5 @@
 -- Each of the wrong logs answers one call otherwise than the table lists, on a log that holds nothing.
+use Rattle.std.specs.Prelude.{Ok}
 use Prim.Native.Nat.{ℕ, ◌+◌, ◌-◌, ◌<◌}
 use mathlib.Core.Path.{◌≡◌, refl, ap, sym, ◌∙◌}
 use mathlib.Core.Logic.{inl, inr}
@@ -15,7 +16,6 @@ use Rattle.ring.specs.Ring.{unrolled}
 use Rattle.eventlog.specs.Answer.{refusal_number, Ruling, allowed, refused, natural}
 use Rattle.eventlog.specs.View.{View, next_of}
 use Rattle.eventlog.specs.Check.{checked, view_of, marks_of, records_in, ruled}
-use Rattle.eventlog.specs.declared.Verdict.TheVariants.{Fine}
 use Rattle.eventlog.specs.declared.Refusal.{Refusal}
 use Rattle.eventlog.specs.declared.Refusal.TheVariants.{EBADFD, EPERM, ESPIPE, EINVAL, EFAULT, EOVERFLOW, EPIPE, EAGAIN}
 use Rattle.store.proofs.MarkLaws.{fine}
@@ -49,7 +49,7 @@ empty n =
       readers = [];
     }
 
-empty-fine : (n : ℕ) → checked (empty n).log (empty n).buffer ≡ Fine
+empty-fine : (n : ℕ) → checked (empty n).log (empty n).buffer ≡ Ok tt
 unfolding empty marks_of unrolled setting_fits saved_fits
 empty-fine n =
     fine (empty n).log (empty n).buffer []
@@ -88,7 +88,7 @@ module _ (onWrite : View → List ℕ → Ruling) (onBox : View → ℕ → ℕ 
     (f : AsListed (ruled_by onWrite onBox onCommand)) (n : ℕ) where
   -- what a call there is listed to answer
   abbrev At : Call → Type 0
-  At c = Listed (checked (empty n).log (empty n).buffer ≡ Fine → ⊥) (view n) (empty n).readers c (ruled_by onWrite onBox onCommand (empty n) c)
+  At c = Listed (checked (empty n).log (empty n).buffer ≡ Ok tt → ⊥) (view n) (empty n).readers c (ruled_by onWrite onBox onCommand (empty n) c)
 
   -- what the writes and a command do answer
   module _ (bytes : List ℕ) (q : Ruling) (e : onWrite (view n) bytes ≡ q) where
@@ -150,7 +150,7 @@ overflow-refused f =
 
 module _ (bytes : List ℕ) where
   abbrev Row : Refusal → Type 0
-  Row e = Applies (checked (empty 0).log (empty 0).buffer ≡ Fine → ⊥) (view 0) (empty 0).readers (outside 0 bytes 0) e
+  Row e = Applies (checked (empty 0).log (empty 0).buffer ≡ Ok tt → ⊥) (view 0) (empty 0).readers (outside 0 bytes 0) e
 
   -- no row before -22 applies to a write from outside, on the log whose next number is 0
   none_before : (e : Refusal) → Earlier e EINVAL table → Row e → ⊥
@@ -213,7 +213,7 @@ short-lent : List ℕ
 short-lent = replicate 511 0
 
 abbrev SaveRow : Refusal → Type 0
-SaveRow e = Applies (checked (empty 0).log (empty 0).buffer ≡ Fine → ⊥) (view 0) (empty 0).readers (save 0 short-lent) e
+SaveRow e = Applies (checked (empty 0).log (empty 0).buffer ≡ Ok tt → ⊥) (view 0) (empty 0).readers (save 0 short-lent) e
 
 none-before-short : (e : Refusal) → Earlier e EFAULT table → SaveRow e → ⊥
 none-before-short EBADFD k h = elim h [ check_fails g ↦ g (empty-fine 0) ]
@@ -239,7 +239,7 @@ short-refused f =
     never k 13 (a ∙ y)
 
 abbrev MinimumRow : Refusal → Type 0
-MinimumRow e = Applies (checked (empty 0).log (empty 0).buffer ≡ Fine → ⊥) (view 0) (empty 0).readers (minimum (pos 9)) e
+MinimumRow e = Applies (checked (empty 0).log (empty 0).buffer ≡ Ok tt → ⊥) (view 0) (empty 0).readers (minimum (pos 9)) e
 
 none-before-outside : (e : Refusal) → Earlier e EINVAL table → MinimumRow e → ⊥
 none-before-outside EBADFD k h = elim h [ check_fails g ↦ g (empty-fine 0) ]

@@ -1,7 +1,6 @@
 -- Document 02's ticket 4 over whole runs of calls: off and on keep our level. Command 7 restores the level from before command 6, whatever calls come
 -- between the two, on the history and on the log itself.
-use Rattle.std.specs.Prelude.{ℕ, ◌≤◌, ◌≡◌, Bool, true, false, List, [], ◌∷◌, ◌++◌, ℤ, pos, length}
-use Rattle.console.specs.declared.Saved.TheVariants.{Nothing}
+use Rattle.std.specs.Prelude.{ℕ, ◌≤◌, ◌≡◌, Bool, true, false, List, [], ◌∷◌, ◌++◌, ℤ, pos, length, None}
 use Rattle.record.specs.Limits.{capacity_least, capacity_most}
 use Rattle.history.specs.Calls.{Call, outside, box, make, place, read, seek, command, save, minimum, check, console, state_after}
 use Rattle.history.specs.Past.{Past, past_after}
@@ -40,14 +39,14 @@ off_and_on off cs on = ordered 6 off ∷ (cs ++ (ordered 7 on ∷ []))
 
 -- the level is restored, and the save used up
 abbrev pub KeepsLevel : Type 0
-KeepsLevel = (p : Past) → p.marks.setting.saved ≡ Nothing → (off : Order) (cs : List Call) → NoneOn cs → (on : Order)
+KeepsLevel = (p : Past) → p.marks.setting.saved ≡ None → (off : Order) (cs : List Call) → NoneOn cs → (on : Order)
     → let q = past_after p (off_and_on off cs on) in
-    (q.marks.setting.level ≡ p.marks.setting.level) × (q.marks.setting.saved ≡ Nothing)
+    (q.marks.setting.level ≡ p.marks.setting.level) × (q.marks.setting.saved ≡ None)
 
 -- from a fresh log, after any calls that leave no level saved
 abbrev pub LogKeepsLevel : Type 0
 LogKeepsLevel = (buffer : List ℕ) → capacity_least ≤ length buffer → length buffer ≤ capacity_most → (before : List Call) → AllTimed before
     → let s = state_after (fresh buffer) before in
-    s.log.console.saved ≡ Nothing → (off : Order) (cs : List Call) → AllTimed cs → NoneOn cs → (on : Order)
+    s.log.console.saved ≡ None → (off : Order) (cs : List Call) → AllTimed cs → NoneOn cs → (on : Order)
     → let t = state_after s (off_and_on off cs on) in
-    (t.log.console.level ≡ s.log.console.level) × (t.log.console.saved ≡ Nothing)
+    (t.log.console.level ≡ s.log.console.level) × (t.log.console.saved ≡ None)

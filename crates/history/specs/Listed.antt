@@ -1,7 +1,7 @@
 -- Document 01's table "When the log says no", as it is written and as document 02 amends it: a line for each phrase, in the words of what the log holds, the reader's number
 -- and what is handed in. None of the tests that the calls' definitions are made of is in it, so that a log which refuses more, less or in
 -- another order does not meet it. The figures are the paper's own, as in the tables of cases: a limit that is moved in its definition is refused here.
-use Rattle.std.specs.Prelude.{ℕ, ◌+◌, ◌-◌, ◌*◌, ◌^◌, ◌<◌, ◌≤◌, ◌≡◌, ◌⊎◌, Bool, true, false, List, [], ◌∷◌, ℤ, pos, negsuc, length, get_or}
+use Rattle.std.specs.Prelude.{ℕ, ◌+◌, ◌-◌, ◌*◌, ◌^◌, ◌<◌, ◌≤◌, ◌≡◌, ◌⊎◌, Bool, true, false, List, [], ◌∷◌, ℤ, pos, negsuc, length, get_or, Ok}
 use Rattle.slices.specs.Tests.{all_bytes}
 use Rattle.slices.specs.Listed.{In, Exactly}
 use Rattle.record.specs.Limits.{capacity_least, capacity_most}
@@ -10,7 +10,6 @@ use Rattle.record.specs.Forms.{kmsg_line}
 use Rattle.eventlog.specs.View.{View, next_of, record_at}
 use Rattle.eventlog.specs.Check.{checked, view_of}
 use Rattle.eventlog.specs.Excess.{total}
-use Rattle.eventlog.specs.declared.Verdict.TheVariants.{Fine}
 use Rattle.eventlog.specs.declared.Refusal.{Refusal}
 use Rattle.eventlog.specs.declared.Refusal.TheVariants.{EBADFD, EPERM, ESPIPE, EINVAL, EFAULT, EOVERFLOW, EPIPE, EAGAIN}
 use Rattle.syslog.specs.declared.Asked.{Asked}
@@ -136,7 +135,7 @@ pub record Listed (fails : Type 0) (v : View) (readers : List ℕ) (c : Call) (r
 -- for every log over bytes, whatever its numbers, all readers and every call, of a log that answers so
 abbrev pub AsListed : (State → Call → Reply) → Type 0
 AsListed reply = (s : State) → all_bytes s.buffer ≡ true → (c : Call) → Asking s.readers c
-    → Listed (checked s.log s.buffer ≡ Fine → ⊥) (view_of s.log s.buffer) s.readers c (reply s c)
+    → Listed (checked s.log s.buffer ≡ Ok tt → ⊥) (view_of s.log s.buffer) s.readers c (reply s c)
 
 abbrev pub answered : State → Call → Reply
 answered s c = (step s c).reply
@@ -149,5 +148,5 @@ abbrev pub RunsAsListed : Type 0
 RunsAsListed = (buffer : List ℕ) → capacity_least ≤ length buffer → length buffer ≤ capacity_most → (before : List Call) → AllTimed before
     → let s = state_after (fresh buffer) before in
     let p = past_after (fresh_past (length buffer)) before in
-    (checked s.log s.buffer ≡ Fine)
+    (checked s.log s.buffer ≡ Ok tt)
     × ((c : Call) → Asking p.readers c → Listed ⊥ (held p) p.readers c (answered s c))

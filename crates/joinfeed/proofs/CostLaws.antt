@@ -1,9 +1,9 @@
 -- What a call writes is paid for by what was open and by the message that came.
+use Rattle.std.specs.Prelude.{Option, Some, None}
 use Prim.Native.Nat.{ℕ, zero, suc, ◌+◌, ◌*◌, ◌≤◌, ◌<◌}
 use mathlib.Core.Path.{◌≡◌, refl}
 use mathlib.Core.Bool.{Bool, true, false, ◌||◌, not, cond}
 use mathlib.Core.List.{List, [], ◌∷◌, ◌++◌}
-use mathlib.Core.Option.{Option, none, some}
 use native.Mathlib.Omega.{arith}
 use lib.Dec.{leb, eqb}
 use lib.ListN.{length, get_or, set, take, drop, length-append, length-take, length-set}
@@ -13,16 +13,13 @@ use Rattle.number.proofs.DecimalLaws.{decimal-most}
 use Rattle.escape.proofs.EscapeLaws.{kmsg_most}
 use Rattle.message.specs.Message.{Reading, reading, refusal}
 use Rattle.channel.specs.Channel.{channels, slot_size, facility_first, has_channel, channel, is_late}
-use Rattle.channel.specs.declared.Newest.{Newest}
-use Rattle.channel.specs.declared.Newest.TheVariants as newest-is
 use Rattle.channel.proofs.ChannelLaws.{channel-below}
 use Rattle.joiner.specs.Joiner.{State, empty_slot, lacks_room, is_short, join_refusal, Turn, turn, opens, adds, turned, held_text, open_text, length_of, hold, after, give, taking, join, closed, is_open, lowest, give_back, close_lowest, close}
 use Rattle.joiner.specs.Whole.{joining, closing, Called, joined_by, closed_by, called}
-use Rattle.joiner.specs.declared.Length.{Length}
-use Rattle.joiner.specs.declared.Length.TheVariants as length-is
 use Rattle.joiner.specs.declared.Slot.{Slot}
 use Rattle.joiner.specs.declared.Answer.TheVariants.{Refused as refused}
 use Rattle.joinfeed.specs.Lines.{text_line, text_lines}
+use Rattle.record.specs.declared.Seq.{Seq}
 
 -- ---- what a text costs as a line: four bytes for each of its own, two digits, a space and a newline
 
@@ -39,9 +36,9 @@ line-most facility text h = simp length-append (omega (arith, decimal-most 1 fac
 
 -- ---- what is open
 
-abbrev pub owed : Length → ℕ
-owed length-is.Nothing = 0
-owed (length-is.Bytes n) = 4 * n + 4
+abbrev pub owed : Option ℕ → ℕ
+owed None = 0
+owed (Some n) = 4 * n + 4
 
 abbrev pub owes : List Slot → ℕ
 owes [] = 0
@@ -53,40 +50,40 @@ owes_set (t ∷ ss) zero s = omega arith
 owes_set (t ∷ ss) (suc i) s = omega (arith, owes_set ss i s)
 
 abbrev keeps : Option (List ℕ) → ℕ
-keeps none = 0
-keeps (some t) = cost t
+keeps None = 0
+keeps (Some t) = cost t
 
 owed_kept : (o : Option (List ℕ)) → owed (length_of o) ≡ keeps o
-owed_kept none = refl
-owed_kept (some t) = refl
+owed_kept None = refl
+owed_kept (Some t) = refl
 
-held-most : (buffer : List ℕ) (i : ℕ) (l : Length) → keeps (held_text buffer i l) ≤ owed l
-held-most buffer i length-is.Nothing = omega arith
-held-most buffer i (length-is.Bytes n) = omega (arith, length-take n (drop (i * slot_size) buffer))
+held-most : (buffer : List ℕ) (i : ℕ) (l : Option ℕ) → keeps (held_text buffer i l) ≤ owed l
+held-most buffer i None = omega arith
+held-most buffer i (Some n) = omega (arith, length-take n (drop (i * slot_size) buffer))
 
 -- a place written or closed
-hold_owes : (j : State) (i : ℕ) (o : Option (List ℕ)) (last : Newest) → owes (hold j i o last).slots + keeps (open_text j i) ≤ owes j.slots + keeps o
+hold_owes : (j : State) (i : ℕ) (o : Option (List ℕ)) (last : Option Seq) → owes (hold j i o last).slots + keeps (open_text j i) ≤ owes j.slots + keeps o
 unfolding hold
 hold_owes j i o last =
     omega (arith, owes_set j.slots i (record { text = length_of o }), owed_kept o, held-most j.buffer i (get_or j.slots i empty_slot).text)
 
-hold_many : (j : State) (i : ℕ) (o : Option (List ℕ)) (last : Newest) → length (hold j i o last).slots ≡ length j.slots
+hold_many : (j : State) (i : ℕ) (o : Option (List ℕ)) (last : Option Seq) → length (hold j i o last).slots ≡ length j.slots
 unfolding hold
 hold_many j i o last = length-set j.slots i (record { text = length_of o })
 
 -- a piece pays for what it opens or adds to, and for its own line
 turn-costs : (o : Option (List ℕ)) (flag : ℕ) (piece : List ℕ) → costs (turned o flag piece).given + keeps (turned o flag piece).kept ≤ keeps o + cost piece
 unfolding turned
-turn-costs none flag piece = go (opens flag)
+turn-costs None flag piece = go (opens flag)
   where
-    go : (a : Bool) → let t = cond a (turn [] (some piece)) (turn (piece ∷ []) none) in costs t.given + keeps t.kept ≤ keeps none + cost piece
+    go : (a : Bool) → let t = cond a (turn [] (Some piece)) (turn (piece ∷ []) None) in costs t.given + keeps t.kept ≤ keeps None + cost piece
     go true = omega arith
     go false = omega arith
-turn-costs (some t) flag piece = go (adds flag) (leb (length t + length piece) slot_size)
+turn-costs (Some t) flag piece = go (adds flag) (leb (length t + length piece) slot_size)
   where
     go : (a b : Bool)
-        → let u = cond a (cond b (turn [] (some (t ++ piece))) (turn (t ∷ []) (some piece))) (turn (t ∷ piece ∷ []) none) in
-        costs u.given + keeps u.kept ≤ keeps (some t) + cost piece
+        → let u = cond a (cond b (turn [] (Some (t ++ piece))) (turn (t ∷ []) (Some piece))) (turn (t ∷ piece ∷ []) None) in
+        costs u.given + keeps u.kept ≤ keeps (Some t) + cost piece
     go true true = omega (arith, length-append t piece)
     go true false = omega arith
     go false b = omega arith
@@ -136,7 +133,7 @@ unfolding taking
 taking_pays j r first second on =
     let i : ℕ = channel r.prefix in
     let t : Turn = turned (open_text j i) r.flag r.text in
-    let last : Newest = newest-is.Record (record { 0 = r.sequence }) in
+    let last : Option Seq = Some (record { 0 = r.sequence }) in
     let k : State = hold j i t.kept last in
     let same : (give k i t.given first second).joiner ≡ k = give-joiner k i t.given first second in
     let lines : length (text_lines (joined_by (give k i t.given first second)).shown) ≤ costs t.given =
@@ -169,8 +166,8 @@ lowest-most (s ∷ ss) = go (is_open s.text) (lowest-most ss)
 given_back : (k : State) (i : ℕ) (o : Option (List ℕ)) (result : List ℕ) → facility_first + i < 100
     → (length (text_lines (closed_by (give_back k i o result)).shown) ≤ keeps o) × ((give_back k i o result).joiner ≡ k)
 unfolding give_back
-given_back k i none result h = (omega arith, refl)
-given_back k i (some t) result h = (rw length-append (omega (arith, seen_most k i result result h t (put result 0 t))), refl)
+given_back k i None result h = (omega arith, refl)
+given_back k i (Some t) result h = (rw length-append (omega (arith, seen_most k i result result h t (put result 0 t))), refl)
 
 pub close_pays : (j : State) (result : List ℕ) → length j.slots ≡ channels → Pays j (called j (closing result)) 0
 unfolding called close close_lowest
@@ -180,7 +177,7 @@ close_pays j result many = go (lacks_room j || is_short result)
     i = lowest j.slots
 
     k : State
-    k = hold j i none j.last
+    k = hold j i None j.last
 
     back : (length (text_lines (closed_by (give_back k i (open_text j i) result)).shown) ≤ keeps (open_text j i)) × ((give_back k i (open_text j i) result).joiner ≡ k)
     back = given_back k i (open_text j i) result (omega (arith, lowest-most j.slots, many))
@@ -189,6 +186,6 @@ close_pays j result many = go (lacks_room j || is_short result)
     go true = record { enough = omega arith; many = refl }
     go false =
         record {
-          enough = rw back.1 (omega (arith, back.0, hold_owes j i none j.last));
-          many = rw back.1 (hold_many j i none j.last);
+          enough = rw back.1 (omega (arith, back.0, hold_owes j i None j.last));
+          many = rw back.1 (hold_many j i None j.last);
         }

@@ -1,4 +1,5 @@
 -- One call of the program, and a list of them: what is left to write stands behind what was written.
+use Rattle.std.specs.Prelude.{Option, None}
 use Prim.Native.Nat.{ℕ, suc, ◌+◌, ◌-◌, ◌≤◌, ◌<◌}
 use mathlib.Core.Path.{◌≡◌, refl, ap, sym, ◌∙◌}
 use mathlib.Core.List.{List, [], ◌∷◌, ◌++◌, map}
@@ -9,8 +10,6 @@ use Rattle.escape.specs.Answers.{Written}
 use Rattle.feed.specs.Feed.{messages, message_length}
 use Rattle.feed.proofs.GroupLaws.{messages-cut, message-inside}
 use Rattle.feed.proofs.WriteLaws.{fill_written, fill_done}
-use Rattle.channel.specs.declared.Newest.{Newest}
-use Rattle.channel.specs.declared.Newest.TheVariants as newest-is
 use Rattle.joiner.specs.Joiner.{State, state, empty_slot, fresh, join, close, left, left_closed}
 use Rattle.joiner.specs.Whole.{Call, joining, closing, shown_by, Called, joined_by, closed_by, called, all_shown, after_all}
 use Rattle.joiner.specs.declared.Told.{Told}
@@ -22,6 +21,7 @@ use Rattle.joinfeed.specs.Lines.{result, joinings, text_lines, count_refused, al
 use Rattle.joinfeed.specs.Steps.{Steps, Runs}
 use Rattle.joinfeed.specs.declared.Progress.{Progress}
 use Rattle.joinfeed.proofs.LineLaws.{lines-append}
+use Rattle.record.specs.declared.Seq.{Seq}
 
 -- ---- one call
 
@@ -121,11 +121,11 @@ pub record Taking (input buffer₀ out₀ : List ℕ) (k : Joiner) (buffer : Lis
   pub runs : Running (fresh buffer₀) (joinings (messages input)) out₀ 0 (state k.slots k.last buffer) (joinings (messages rest)) out end
   pub counts : refused + all_refused (state k.slots k.last buffer) (joinings (messages rest)) ≡ all_refused (fresh buffer₀) (joinings (messages input))
 
-new_is : {slots : List Slot} {last : Newest} (buffer : List ℕ) → (slots ≡ replicate 8 empty_slot) × (last ≡ newest-is.Nothing) → state slots last buffer ≡ fresh buffer
+new_is : {slots : List Slot} {last : Option Seq} (buffer : List ℕ) → (slots ≡ replicate 8 empty_slot) × (last ≡ None) → state slots last buffer ≡ fresh buffer
 unfolding fresh
 new_is buffer e = rw (e.0, e.1)
 
-pub take_begin : {input buffer out : List ℕ} {k : Joiner} → (k.slots ≡ replicate 8 empty_slot) × (k.last ≡ newest-is.Nothing)
+pub take_begin : {input buffer out : List ℕ} {k : Joiner} → (k.slots ≡ replicate 8 empty_slot) × (k.last ≡ None)
     → length (text_lines (all_shown (fresh buffer) (joinings (messages input)))) ≤ length out → Taking input buffer out k buffer 0 out 0 input
 take_begin {buffer = buffer} e h =
     record { count = omega arith; size = refl; runs = rw (new_is buffer e) (run_begin (omega arith)); counts = rw (new_is buffer e) (omega arith) }

@@ -1,6 +1,5 @@
 -- No piece is dropped or written twice: of each facility, the texts in the lines are the texts of the messages taken, in their order.
-use Rattle.std.specs.Prelude.{ℕ, ◌+◌, ◌≤◌, ◌<◌, ◌≡◌, List, ◌++◌, length}
-use Rattle.std.proofs.Math.Option.{none}
+use Rattle.std.specs.Prelude.{ℕ, ◌+◌, ◌≤◌, ◌<◌, ◌≡◌, List, ◌++◌, length, None}
 use Rattle.feed.specs.Feed.{input_most, messages}
 use Rattle.feed.specs.Printing.{refused_line}
 use Rattle.channel.specs.Channel.{channels, buffer_size, facility_first}
@@ -15,7 +14,7 @@ pub record Accounted (buffer input : List ℕ) : Type 0 where
   pub each : (i : ℕ) → i < channels
       → bytes_on (facility_first + i) (given buffer (messages input)) ≡ texts (taken_on (facility_first + i) (all_taken (fresh buffer) (joinings (messages input))))
   -- the closings are enough
-  pub nothing_open : (i : ℕ) → i < channels → open_text (after_all (fresh buffer) (calls (messages input))) i ≡ none
+  pub nothing_open : (i : ℕ) → i < channels → open_text (after_all (fresh buffer) (calls (messages input))) i ≡ None
 
 abbrev pub NoneLost : Type 0
 NoneLost = (buffer input : List ℕ) → length buffer ≡ buffer_size → length input ≤ input_most → Accounted buffer input

@@ -9,17 +9,15 @@ ghost use Rattle.joiner.specs.Whole.{joining, closing, shown_by, called, all_sho
 ghost use Rattle.joinfeed.specs.Lines.{result as lent, text_line, text_lines, count_refused, joinings, closings, output, buffer_after};
 ghost use Rattle.joinfeed.specs.Steps.{Steps, Runs};
 
-use channel::Place;
 use feed::Received;
 use joiner::{Answer, Joiner};
-use slices::Placed;
 
 // Bytes that have room for all that is written: the lines have at most four bytes for each byte of the input, and behind them are 8
 // bytes, 20 digits and a newline.
 pub const OUTPUT: usize = 4 * Received::INPUT + 8 + 20 + 1;
 
 // How often the host closes at the end: once for each text that can be open.
-const CLOSES: usize = Place::CHANNELS;
+const CLOSES: usize = channel::CHANNELS;
 
 // The joiner, how many messages it refused, and the place behind the lines written.
 #[derive(Clone, Copy)]
@@ -152,8 +150,8 @@ pub fn run(input: &[u8], texts: &mut [u8], out: &mut [u8; OUTPUT]) -> usize
 {
     if Received::INPUT < input.len() {
         return match slices::copy(b"input too long\n", out, 0) {
-            Placed::End(end) => end,
-            Placed::NoRoom => 0,
+            Some(end) => end,
+            None => 0,
         };
     }
     let taken = take_all(input, texts, out);

@@ -6,8 +6,7 @@
 #![tactic(auto)]
 
 use joiner::{Answer, Joiner, Text};
-use number::Decimal;
-use slices::Found;
+use number::DecimalError;
 use std::io;
 
 // The numbers, and some messages: the longest of the bench has less than 4,096 bytes.
@@ -62,10 +61,10 @@ fn number_at(s: &[u8], at: usize, stop: u8, most: u64) -> Read {
         return Read::Nothing;
     }
     let rest = &s[at..];
-    let Found::At(end) = slices::find(rest, stop) else {
+    let Some(end) = slices::find(rest, stop) else {
         return Read::Nothing;
     };
-    let Decimal::Value(value) = number::read_decimal(slices::front(rest, end), most) else {
+    let Ok(value) = number::read_decimal(slices::front(rest, end), most) else {
         return Read::Nothing;
     };
     let behind = at.wrapping_add(end);

@@ -2,7 +2,7 @@
 ghost use Rattle.std.specs.Prelude.{◌^◌, ◌≤◌, ◌<◌};
 
 use crate::say;
-use number::Decimal;
+use number::DecimalError;
 use std::io;
 
 // A number as it is printed.
@@ -59,9 +59,9 @@ fn read(rt: &impl Print, s: &[u8]) -> io::Result<()> {
     say::text(rt, s)?;
     say::text(rt, b": ")?;
     match number::read_decimal(s, 18446744073709551615) {
-        Decimal::Value(n) => say::number(rt, n)?,
-        Decimal::NotPlain => say::text(rt, b"not plain")?,
-        Decimal::Above => say::text(rt, b"above")?,
+        Ok(n) => say::number(rt, n)?,
+        Err(DecimalError::NotPlain) => say::text(rt, b"not plain")?,
+        Err(DecimalError::Above) => say::text(rt, b"above")?,
     }
     say::line(rt)
 }

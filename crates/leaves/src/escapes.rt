@@ -1,16 +1,15 @@
 // The \x form: T9, and every byte written and read back.
 use crate::say;
-use escape::Unescaped;
-use slices::Placed;
+use escape::UnescapeError;
 use std::io;
 
 // An escaped run, read back.
 fn back(rt: &impl Print, s: &[u8]) -> io::Result<()> {
     let mut out = [0u8; 8];
     match escape::unescape(s, &mut out, 0) {
-        Unescaped::End(n) => say::bytes(rt, slices::front(&out, n)),
-        Unescaped::NoRoom => say::text(rt, b" no room"),
-        Unescaped::Misshapen => say::text(rt, b" misshapen"),
+        Ok(n) => say::bytes(rt, slices::front(&out, n)),
+        Err(UnescapeError::NoRoom) => say::text(rt, b" no room"),
+        Err(UnescapeError::Misshapen) => say::text(rt, b" misshapen"),
     }
 }
 
@@ -22,11 +21,11 @@ fn byte(rt: &impl Print, b: u8) -> io::Result<()> {
     say::bytes(rt, &one)?;
     say::text(rt, b" ")?;
     match escape::escape(&one, &mut out, 0) {
-        Placed::End(n) => {
+        Some(n) => {
             say::text(rt, slices::front(&out, n))?;
             back(rt, slices::front(&out, n))?;
         }
-        Placed::NoRoom => say::text(rt, b"no room")?,
+        None => say::text(rt, b"no room")?,
     }
     say::line(rt)
 }

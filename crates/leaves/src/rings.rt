@@ -4,7 +4,6 @@ ghost use Rattle.ring.specs.Ring.{Within};
 
 use crate::say;
 use ring::Place;
-use slices::Placed;
 use std::io;
 
 // The used bytes, one after the other.
@@ -30,14 +29,14 @@ fn put(rt: &impl Print, start: usize, used: usize) -> io::Result<()>
     say::number(rt, used as u64)?;
     say::text(rt, b": ")?;
     match ring::ring_put(&mut buffer, Place(start), used, b"XYZ") {
-        Placed::End(n) => {
+        Some(n) => {
             say::text(rt, &buffer)?;
             if n <= 7 {
                 say::text(rt, b" ")?;
                 straight(rt, &buffer, start, n)?;
             }
         }
-        Placed::NoRoom => say::text(rt, b"no room")?,
+        None => say::text(rt, b"no room")?,
     }
     say::line(rt)
 }

@@ -14,10 +14,10 @@ pub fn line(rt: &impl Print) -> io::Result<()> {
 }
 
 // The first n bytes of a buffer, after a call that answered a place.
-pub fn placed(rt: &impl Print, placed: slices::Placed, out: &[u8]) -> io::Result<()> {
+pub fn placed(rt: &impl Print, placed: Option<usize>, out: &[u8]) -> io::Result<()> {
     match placed {
-        slices::Placed::End(n) => text(rt, slices::front(out, n)),
-        slices::Placed::NoRoom => text(rt, b"no room"),
+        Some(n) => text(rt, slices::front(out, n)),
+        None => text(rt, b"no room"),
     }
 }
 

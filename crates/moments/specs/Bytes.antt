@@ -1,9 +1,8 @@
 -- Where document 01 says that a write puts its bytes: heading, text and dictionary as they lie in the buffer, the start place, and the bytes that stay
 -- as they were. A heading: time 8, sequence 8, text length 2, dictionary length 2, prefix 2, flag 45, zero, caller 4, four
 -- zeros; each number's lowest byte first.
-use Rattle.std.specs.Prelude.{ℕ, List, [], ◌∷◌, ◌++◌, pos, drop, replicate}
+use Rattle.std.specs.Prelude.{ℕ, List, [], ◌∷◌, ◌++◌, pos, drop, replicate, Some, None}
 use Rattle.slices.specs.Quoted.{quoted}
-use Rattle.console.specs.declared.Saved.TheVariants.{Nothing, Level}
 use Rattle.history.specs.Calls.{make, read, seek, minimum, wrote, made, gave, sought, told}
 use Rattle.moments.specs.Case.{outside, box, Step, ◌gives◌, Leaves, Case, leaves, minus, blank, asked}
 
@@ -26,7 +25,7 @@ abbrev pub in_front : Leaves
 in_front =
     record {
       steps = outside time₁ (quoted "<134>GOAL home 1") gives wrote (pos 16) 0 ∷ [];
-      numbers = record { start = 0; used = 43; first = 0; next = 1; clear = 0; position = 0; offset = 0; level = 7; minimum = 1; saved = Nothing };
+      numbers = record { start = 0; used = 43; first = 0; next = 1; clear = 0; position = 0; offset = 0; level = 7; minimum = 1; saved = None };
       buffer = goal;
     }
 
@@ -35,7 +34,7 @@ abbrev pub with_dictionary : Leaves
 with_dictionary =
     record {
       steps = box 255 7 time₂ (quoted "bridge up") (quoted "k=1\0l=") gives wrote (pos 15) 0 ∷ [];
-      numbers = record { start = 0; used = 47; first = 0; next = 1; clear = 0; position = 0; offset = 0; level = 7; minimum = 1; saved = Nothing };
+      numbers = record { start = 0; used = 47; first = 0; next = 1; clear = 0; position = 0; offset = 0; level = 7; minimum = 1; saved = None };
       buffer = λ held.
           (24 ∷ 23 ∷ 22 ∷ 21 ∷ 20 ∷ 19 ∷ 18 ∷ 17 ∷ [])
           ++ (blank 8 ++ ((9 ∷ 0 ∷ 6 ∷ 0 ∷ 255 ∷ 7 ∷ 45 ∷ 0 ∷ []) ++ (blank 8 ++ (quoted "bridge upk=1\0l=" ++ drop 47 held))));
@@ -54,7 +53,7 @@ only-marks =
           ∷ seek 0 (pos 0) (pos 2) gives sought (pos 0) 1
           ∷ read 0 [] gives gave (minus 11) 0 1 []
           ∷ [];
-      numbers = record { start = 0; used = 43; first = 0; next = 1; clear = 1; position = 0; offset = 5; level = 3; minimum = 1; saved = Nothing };
+      numbers = record { start = 0; used = 43; first = 0; next = 1; clear = 1; position = 0; offset = 5; level = 3; minimum = 1; saved = None };
       buffer = goal;
     }
 
@@ -68,7 +67,7 @@ only-setting =
           ∷ minimum (pos 2) gives told (pos 0) []
           ∷ minimum (pos 9) gives told (minus 22) []
           ∷ [];
-      numbers = record { start = 0; used = 43; first = 0; next = 1; clear = 0; position = 0; offset = 0; level = 3; minimum = 2; saved = Level 7 };
+      numbers = record { start = 0; used = 43; first = 0; next = 1; clear = 0; position = 0; offset = 0; level = 3; minimum = 2; saved = Some 7 };
       buffer = goal;
     }
 
@@ -86,7 +85,7 @@ abbrev pub text-over : Leaves
 text-over =
     record {
       steps = over_the_end;
-      numbers = record { start = 976; used = 52; first = 1; next = 2; clear = 0; position = 0; offset = 0; level = 7; minimum = 1; saved = Nothing };
+      numbers = record { start = 976; used = 52; first = 1; next = 2; clear = 0; position = 0; offset = 0; level = 7; minimum = 1; saved = None };
       buffer = λ held.
           quoted "y 0!"
           ++ ((4 ∷ 3 ∷ 2 ∷ 1 ∷ [])
@@ -103,7 +102,7 @@ abbrev pub start-over : Leaves
 start-over =
     record {
       steps = over_the_end ++ (outside 0 (replicate 944 98) gives wrote (pos 944) 1 ∷ []);
-      numbers = record { start = 4; used = 976; first = 2; next = 3; clear = 0; position = 0; offset = 0; level = 7; minimum = 1; saved = Nothing };
+      numbers = record { start = 4; used = 976; first = 2; next = 3; clear = 0; position = 0; offset = 0; level = 7; minimum = 1; saved = None };
       buffer = λ held.
           quoted "y 0!"
           ++ (blank 8
@@ -123,7 +122,7 @@ heading-over =
           ∷ outside 256 (quoted "Kick-off 0-0.") gives wrote (pos 13) 0
           ∷ outside time₁ (quoted "<134>x") gives wrote (pos 6) 1
           ∷ [];
-      numbers = record { start = 976; used = 78; first = 1; next = 3; clear = 0; position = 0; offset = 0; level = 7; minimum = 1; saved = Nothing };
+      numbers = record { start = 976; used = 78; first = 1; next = 3; clear = 0; position = 0; offset = 0; level = 7; minimum = 1; saved = None };
       buffer = λ held.
           (5 ∷ 4 ∷ 3 ∷ 2 ∷ 1 ∷ [])
           ++ ((2 ∷ blank 7)
@@ -143,7 +142,7 @@ dictionary-over =
       steps = outside time₁ (replicate 944 97) gives wrote (pos 944) 0
           ∷ box 3 6 time₂ (quoted "bridge 12 up") (quoted "k=1\0l=") gives wrote (pos 18) 1
           ∷ [];
-      numbers = record { start = 976; used = 50; first = 1; next = 2; clear = 0; position = 0; offset = 0; level = 7; minimum = 1; saved = Nothing };
+      numbers = record { start = 976; used = 50; first = 1; next = 2; clear = 0; position = 0; offset = 0; level = 7; minimum = 1; saved = None };
       buffer = λ held.
           quoted "l="
           ++ ((6 ∷ 5 ∷ 4 ∷ 3 ∷ 2 ∷ 1 ∷ [])
@@ -166,7 +165,7 @@ abbrev pub just_full : Leaves
 just_full =
     record {
       steps = to_the_end;
-      numbers = record { start = 0; used = 1024; first = 0; next = 2; clear = 0; position = 0; offset = 0; level = 7; minimum = 1; saved = Nothing };
+      numbers = record { start = 0; used = 1024; first = 0; next = 2; clear = 0; position = 0; offset = 0; level = 7; minimum = 1; saved = None };
       buffer = λ held.
           (8 ∷ 7 ∷ 6 ∷ 5 ∷ 4 ∷ 3 ∷ 2 ∷ 1 ∷ [])
           ++ (blank 8
@@ -182,7 +181,7 @@ abbrev pub full_goes_on : Leaves
 full_goes_on =
     record {
       steps = to_the_end ++ (outside 0 [] gives wrote (pos 0) 1 ∷ []);
-      numbers = record { start = 976; used = 80; first = 1; next = 3; clear = 0; position = 0; offset = 0; level = 7; minimum = 1; saved = Nothing };
+      numbers = record { start = 976; used = 80; first = 1; next = 3; clear = 0; position = 0; offset = 0; level = 7; minimum = 1; saved = None };
       buffer = λ held.
           blank 8
           ++ ((2 ∷ blank 7)
@@ -204,7 +203,7 @@ position-stays =
           ∷ outside 0 (quoted "GOAL home 1-0 now") gives wrote (pos 17) 1
           ∷ asked 2 0 [] gives told (pos 0) []
           ∷ [];
-      numbers = record { start = 976; used = 49; first = 1; next = 2; clear = 0; position = 0; offset = 5; level = 7; minimum = 1; saved = Nothing };
+      numbers = record { start = 976; used = 49; first = 1; next = 2; clear = 0; position = 0; offset = 5; level = 7; minimum = 1; saved = None };
       buffer = λ held.
           quoted "w"
           ++ (blank 7

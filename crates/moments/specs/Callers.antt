@@ -1,11 +1,10 @@
 -- Document 02's ticket 7, on the log: every write states its caller; worked out by hand from the ticket.
-use Rattle.std.specs.Prelude.{ℕ, true, false, List, [], ◌∷◌, ◌++◌, pos, drop, replicate}
+use Rattle.std.specs.Prelude.{ℕ, true, false, List, [], ◌∷◌, ◌++◌, pos, drop, replicate, None, Ok, Err}
 use Rattle.slices.specs.Quoted.{quoted}
 use Rattle.console.specs.Console.{setting_fresh}
-use Rattle.console.specs.declared.Saved.TheVariants.{Nothing}
-use Rattle.eventlog.specs.declared.Verdict.TheVariants.{Fine, Heading}
 use Rattle.history.specs.Calls.{outside, box, make, read, seek, check, State, wrote, made, gave, sought, told, verdict}
 use Rattle.moments.specs.Case.{◌gives◌, new, hand, Calls, Leaves, Case, calls, leaves, minus, blank, asked}
+use Rattle.eventlog.specs.declared.Misfit.TheVariants.{Heading}
 
 -- callers 0, 1 and 2^32 - 1, from outside and from the box, a fragment among them. The syslog form shows none
 abbrev pub who_wrote : Calls
@@ -24,7 +23,7 @@ who_wrote =
           ∷ read 0 (blank 35) gives gave (pos 35) 0 3 (quoted "134,2,2,c,caller=305419896;1-\n k=v\n")
           ∷ read 0 (blank 30) gives gave (pos 30) 0 4 (quoted "134,3,3,-,caller=0;,caller=9;\n")
           ∷ asked 3 40 (blank 40) gives told (pos 40) (quoted "<134>1-0\n<134>0\n<134>1-\n<134>,caller=9;\n")
-          ∷ check gives verdict Fine
+          ∷ check gives verdict (Ok tt)
           ∷ [];
       after = record { used = 147; first = 0; next = 4; level = 7 };
     }
@@ -34,7 +33,7 @@ abbrev pub caller-stored : Leaves
 caller-stored =
     record {
       steps = box 16 6 0 (quoted "1") [] false 67305985 gives wrote (pos 1) 0 ∷ [];
-      numbers = record { start = 0; used = 33; first = 0; next = 1; clear = 0; position = 0; offset = 0; level = 7; minimum = 1; saved = Nothing };
+      numbers = record { start = 0; used = 33; first = 0; next = 1; clear = 0; position = 0; offset = 0; level = 7; minimum = 1; saved = None };
       buffer = λ held.
           blank 16
           ++ ((1 ∷ 0 ∷ 0 ∷ 0 ∷ 134 ∷ 0 ∷ 45 ∷ 0 ∷ []) ++ ((1 ∷ 2 ∷ 3 ∷ 4 ∷ 0 ∷ 0 ∷ 0 ∷ 0 ∷ []) ++ (quoted "1" ++ drop 33 held)));
@@ -48,7 +47,7 @@ caller-over =
           ∷ outside 0 [] 0 gives wrote (pos 0) 0
           ∷ outside 0 (quoted "x") 67305985 gives wrote (pos 1) 1
           ∷ [];
-      numbers = record { start = 966; used = 65; first = 1; next = 3; clear = 0; position = 0; offset = 0; level = 7; minimum = 1; saved = Nothing };
+      numbers = record { start = 966; used = 65; first = 1; next = 3; clear = 0; position = 0; offset = 0; level = 7; minimum = 1; saved = None };
       buffer = λ held.
           (3 ∷ 4 ∷ blank 4)
           ++ (quoted "x"
@@ -95,7 +94,7 @@ largest-fits =
     record {
       before = hand (with8 (255 ∷ 255 ∷ 255 ∷ 255 ∷ 0 ∷ 0 ∷ 0 ∷ 0 ∷ []));
       earlier = [];
-      steps = check gives verdict Fine
+      steps = check gives verdict (Ok tt)
           ∷ read 0 (blank 29) gives gave (pos 29) 0 6 (quoted "12,5,0,-,caller=4294967295;x\n")
           ∷ [];
       after = record { used = 33; first = 5; next = 6; level = 7 };
@@ -108,7 +107,7 @@ misfits s heading used next =
     record {
       before = hand s;
       earlier = [];
-      steps = check gives verdict (Heading heading)
+      steps = check gives verdict (Err (Heading heading))
           ∷ outside 0 [] 1 gives wrote (minus 77) 0
           ∷ box 1 0 0 [] [] false 1 gives wrote (minus 77) 0
           ∷ read 0 (blank 29) gives gave (minus 77) 0 5 (blank 29)
@@ -141,7 +140,7 @@ holds32 =
     record {
       before = hand (empty_of 1055);
       earlier = replicate 32 (outside 0 [] 1);
-      steps = outside 0 [] 1 gives wrote (pos 0) 1 ∷ read 0 [] gives gave (minus 32) 1 6 [] ∷ check gives verdict Fine ∷ [];
+      steps = outside 0 [] 1 gives wrote (pos 0) 1 ∷ read 0 [] gives gave (minus 32) 1 6 [] ∷ check gives verdict (Ok tt) ∷ [];
       after = record { used = 1024; first = 6; next = 38; level = 7 };
     }
 
@@ -150,7 +149,7 @@ holds33 =
     record {
       before = hand (empty_of 1056);
       earlier = replicate 32 (outside 0 [] 1);
-      steps = outside 0 [] 1 gives wrote (pos 0) 0 ∷ outside 0 (replicate 960 97) 1 gives wrote (pos 960) 31 ∷ check gives verdict Fine ∷ [];
+      steps = outside 0 [] 1 gives wrote (pos 0) 0 ∷ outside 0 (replicate 960 97) 1 gives wrote (pos 960) 31 ∷ check gives verdict (Ok tt) ∷ [];
       after = record { used = 1056; first = 36; next = 39; level = 7 };
     }
 

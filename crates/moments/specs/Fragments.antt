@@ -1,11 +1,10 @@
 -- Document 02's ticket 6, on the log: a write from the box that says it is a fragment; worked out by hand from the ticket.
-use Rattle.std.specs.Prelude.{ℕ, List, [], ◌∷◌, ◌++◌, pos, drop, replicate}
+use Rattle.std.specs.Prelude.{ℕ, List, [], ◌∷◌, ◌++◌, pos, drop, replicate, None, Ok, Err}
 use Rattle.slices.specs.Quoted.{quoted}
 use Rattle.console.specs.Console.{setting_fresh}
-use Rattle.console.specs.declared.Saved.TheVariants.{Nothing}
-use Rattle.eventlog.specs.declared.Verdict.TheVariants.{Fine, Heading}
 use Rattle.history.specs.Calls.{make, read, seek, check, State, wrote, made, gave, sought, told, verdict}
 use Rattle.moments.specs.Case.{outside, box, fragment, ◌gives◌, new, hand, Calls, Leaves, Case, calls, leaves, minus, blank, asked}
+use Rattle.eventlog.specs.declared.Misfit.TheVariants.{Heading}
 
 -- its line has 'c'; one that doesn't say so has '-', and so has every write from outside. The syslog form shows no flag
 abbrev pub in_pieces : Calls
@@ -24,7 +23,7 @@ in_pieces =
           ∷ read 0 (blank 24) gives gave (minus 22) 0 3 (blank 24)
           ∷ read 0 (blank 25) gives gave (pos 25) 0 4 (quoted "134,3,3,c,caller=0;\n k=v\n")
           ∷ asked 3 30 (blank 30) gives told (pos 30) (quoted "<134>1-\n<134>0\n<134>c;c\n<134>\n")
-          ∷ check gives verdict Fine
+          ∷ check gives verdict (Ok tt)
           ∷ [];
       after = record { used = 137; first = 0; next = 4; level = 7 };
     }
@@ -50,7 +49,7 @@ abbrev pub flag-stored : Leaves
 flag-stored =
     record {
       steps = fragment 16 6 0 (quoted "1-") [] gives wrote (pos 2) 0 ∷ [];
-      numbers = record { start = 0; used = 34; first = 0; next = 1; clear = 0; position = 0; offset = 0; level = 7; minimum = 1; saved = Nothing };
+      numbers = record { start = 0; used = 34; first = 0; next = 1; clear = 0; position = 0; offset = 0; level = 7; minimum = 1; saved = None };
       buffer = λ held. blank 16 ++ ((2 ∷ 0 ∷ 0 ∷ 0 ∷ 134 ∷ 0 ∷ 99 ∷ 0 ∷ []) ++ (blank 8 ++ (quoted "1-" ++ drop 34 held)));
     }
 
@@ -79,7 +78,7 @@ c_fits =
     record {
       before = hand (flagged 99);
       earlier = [];
-      steps = check gives verdict Fine
+      steps = check gives verdict (Ok tt)
           ∷ read 0 (blank 20) gives gave (pos 20) 0 6 (quoted "12,5,0,c,caller=0;x\n")
           ∷ [];
       after = record { used = 33; first = 5; next = 6; level = 7 };
@@ -92,7 +91,7 @@ misfits flag =
     record {
       before = hand (flagged flag);
       earlier = [];
-      steps = check gives verdict (Heading 0)
+      steps = check gives verdict (Err (Heading 0))
           ∷ fragment 16 6 0 [] [] gives wrote (minus 77) 0
           ∷ read 0 (blank 11) gives gave (minus 77) 0 5 (blank 11)
           ∷ seek 0 (pos 0) (pos 0) gives sought (minus 77) 5

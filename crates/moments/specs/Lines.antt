@@ -1,11 +1,11 @@
 -- Document 02's ticket 5: each line of a text carries its prefix in the syslog form; worked out by hand from the ticket.
-use Rattle.std.specs.Prelude.{ℕ, zero, suc, List, [], ◌∷◌, ◌++◌, ℤ, pos, replicate}
+use Rattle.std.specs.Prelude.{ℕ, zero, suc, List, [], ◌∷◌, ◌++◌, ℤ, pos, replicate, Result, Ok, Err, ⊤}
 use Rattle.slices.specs.Quoted.{quoted}
 use Rattle.console.specs.Console.{setting_fresh}
-use Rattle.eventlog.specs.declared.Verdict.{Verdict}
-use Rattle.eventlog.specs.declared.Verdict.TheVariants.{Fine, Numbers}
 use Rattle.history.specs.Calls.{make, read, check, State, wrote, made, gave, told, verdict}
 use Rattle.moments.specs.Case.{outside, box, ◌gives◌, new, hand, Calls, calls_of, Case, calls, minus, blank, asked}
+use Rattle.eventlog.specs.declared.Misfit.TheVariants.{Numbers}
+use Rattle.eventlog.specs.declared.Misfit.{Misfit}
 
 -- "", newline, "a" newline, newline "a", two newlines: 6, 12, 13, 13 and 18 bytes
 abbrev pub five_texts : Calls
@@ -97,7 +97,7 @@ longest_form =
           ∷ asked 2 6726 (blank 6726) gives told (pos 6726) (empty_lines 960 ++ quoted "<2047>")
           ∷ asked 9 0 [] gives told (pos 1) []
           ∷ box 255 7 0 (quoted "goal withdrawn 0-0") [] gives wrote (pos 18) 1
-          ∷ check gives verdict Fine
+          ∷ check gives verdict (Ok tt)
           ∷ asked 9 0 [] gives told (pos 25) []
           ∷ [];
       after = record { used = 50; first = 1; next = 2; level = 7 };
@@ -123,7 +123,7 @@ set_by_hand position offset =
     }
 
 -- what the log check says of it, and command 9
-abbrev placed : ℕ → ℕ → Verdict → ℤ → Case
+abbrev placed : ℕ → ℕ → Result ⊤ Misfit → ℤ → Case
 placed position offset fits unread =
     calls (record {
       before = hand (set_by_hand position offset);
@@ -140,10 +140,10 @@ sheets =
     ∷ calls last-lines
     ∷ calls longest_form
     -- in the second line's prefix, at the form's last byte, and behind it
-    ∷ placed 5 8 Fine (pos 4)
-    ∷ placed 5 11 Fine (pos 1)
-    ∷ placed 5 12 Numbers (minus 77)
+    ∷ placed 5 8 (Ok tt) (pos 4)
+    ∷ placed 5 11 (Ok tt) (pos 1)
+    ∷ placed 5 12 (Err Numbers) (minus 77)
     -- the position's record is gone: 6,726 and 6,727
-    ∷ placed 4 6726 Fine (pos 12)
-    ∷ placed 4 6727 Numbers (minus 77)
+    ∷ placed 4 6726 (Ok tt) (pos 12)
+    ∷ placed 4 6727 (Err Numbers) (minus 77)
     ∷ []

@@ -1,13 +1,12 @@
 -- Document 01's "When the log says no" and the refusals 1 to 10 of the receiving end: a row at least for each number, and those that stand at
 -- its edge.
-use Rattle.std.specs.Prelude.{ℕ, true, false, List, [], ◌∷◌, ◌++◌, pos, replicate, set as set_at}
+use Rattle.std.specs.Prelude.{ℕ, true, false, List, [], ◌∷◌, ◌++◌, pos, replicate, set as set_at, None, Ok, Err}
 use Rattle.slices.specs.Quoted.{quoted}
-use Rattle.console.specs.declared.Saved.TheVariants.{Nothing}
-use Rattle.eventlog.specs.declared.Verdict.TheVariants.{Fine, Numbers, Heading}
 use Rattle.history.specs.Calls.{make, place, read, seek, command, check, State, wrote, made, set, gave, sought, told, verdict, nobody}
 use Rattle.board.specs.Board.{fresh, empty_slot, state}
 use Rattle.board.specs.Board.{State as Board}
 use Rattle.moments.specs.Case.{outside, box, ◌gives◌, new, hand, Calls, dots, shows, slot_of, board₀, board_after, Case, calls, line_answers, board_answers, minus, blank, asked, poor}
+use Rattle.eventlog.specs.declared.Misfit.TheVariants.{Numbers, Heading}
 
 -- ---- when the log says no
 
@@ -23,7 +22,7 @@ set_by_hand used first next level =
         clear = record { 0 = 0 };
         position = record { 0 = first };
         offset = 0;
-        console = record { level = level; minimum = 1; saved = Nothing };
+        console = record { level = level; minimum = 1; saved = None };
       };
       buffer = blank 1024;
       readers = 0 ∷ [];
@@ -46,7 +45,7 @@ heading_fails =
           ∷ seek 0 (pos 1) (pos 3) gives sought (minus 77) 0
           ∷ asked 2 1 (quoted "x") gives told (minus 77) (quoted "x")
           ∷ poor 2 0 true [] gives told (minus 77) []
-          ∷ check gives verdict (Heading 0)
+          ∷ check gives verdict (Err (Heading 0))
           ∷ [];
       after = record { used = 32; first = 0; next = 1; level = 7 };
     }
@@ -63,7 +62,7 @@ numbers-misfit =
           ∷ seek 0 (pos 1) (pos 3) gives sought (minus 77) 0
           ∷ asked 2 1 (quoted "x") gives told (minus 77) (quoted "x")
           ∷ poor 2 0 true [] gives told (minus 77) []
-          ∷ check gives verdict Numbers
+          ∷ check gives verdict (Err Numbers)
           ∷ make gives made 5
           ∷ [];
       after = record { used = 0; first = 5; next = 5; level = 9 };
@@ -75,7 +74,7 @@ numbers-over =
     record {
       before = hand (set_by_hand 0 last last 7);
       earlier = [];
-      steps = check gives verdict Fine
+      steps = check gives verdict (Ok tt)
           ∷ outside 0 [] gives wrote (minus 75) 0
           ∷ box 1 0 0 [] [] gives wrote (minus 75) 0
           ∷ outside 0 (replicate 961 97) gives wrote (minus 22) 0

@@ -1,4 +1,5 @@
 -- Plain decimal: what was printed is read back, printed decimal is plain, and plain decimal is unique; for every number.
+use Rattle.std.specs.Prelude.{Ok}
 use Prim.Native.Nat.{ℕ, zero, suc, ◌+◌, ◌*◌, ◌-◌, ◌/◌, ◌%◌, ◌^◌, ◌≤◌, ◌<◌}
 use mathlib.Core.Path.{◌≡◌, refl, ap, sym, ◌∙◌}
 use mathlib.Core.Bool.{Bool, true, false, true≢false, false≢true, ◌&&◌, ◌||◌, not}
@@ -12,7 +13,6 @@ use borrow.Author.Tests.{ltb-true, ltb-false, le-leb, ne_eqb, eqb-true, eqb-fals
 use Rattle.slices.specs.Cut.{has}
 use Rattle.slices.proofs.Bools.{every_first, every-other, and_left, and_right}
 use Rattle.number.specs.Decimal.{is_digit, all_digits, no_leading_zero, plain_decimal, value_from, value, digits_of, decimal, decimal_up_to}
-use Rattle.number.specs.declared.Decimal.TheVariants.{Value}
 
 -- the digits of n, by the test on its last digit
 abbrev pub pick : Bool → ℕ → ℕ → List ℕ
@@ -228,6 +228,6 @@ pub decimal-one : (m n : ℕ) → decimal m ≡ decimal n → m ≡ n
 decimal-one m n e = sym (value-decimal m) ∙ ap value e ∙ value-decimal n
 
 -- what was printed is read back, up to any bound that it keeps
-pub decimal-read : (most n : ℕ) → n ≤ most → decimal_up_to most (decimal n) ≡ Value n
+pub decimal-read : (most n : ℕ) → n ≤ most → decimal_up_to most (decimal n) ≡ Ok n
 unfolding decimal_up_to
 decimal-read most n h = rw (plain-decimal n, value-decimal n, le-leb n most h)

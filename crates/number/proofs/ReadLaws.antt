@@ -1,4 +1,5 @@
 -- Reading decimal byte by byte: what is left, after the number that was read, says what the whole says.
+use Rattle.std.specs.Prelude.{Result, Ok, Err}
 use Prim.Native.Nat.{ℕ, ◌+◌, ◌*◌, ◌-◌, ◌^◌, ◌≤◌, ◌<◌}
 use mathlib.Core.Path.{◌≡◌, refl, sym, ◌∙◌}
 use mathlib.Core.Bool.{Bool, true, false, not, cond}
@@ -12,17 +13,17 @@ use borrow.Author.Tests.{le-leb, lt-leb, eq-eqb, ne_eqb, not-true, not-false}
 use Rattle.slices.proofs.Bools.{and-true, and-false}
 use Rattle.slices.proofs.PutLaws.{drop-step}
 use Rattle.number.specs.Decimal.{is_digit, all_digits, no_leading_zero, plain_decimal, value_from, value, decimal_up_to}
-use Rattle.number.specs.declared.Decimal.{Decimal}
-use Rattle.number.specs.declared.Decimal.TheVariants.{Value, NotPlain, Above}
 use Rattle.number.proofs.DecimalLaws.{digit_low, digit-high}
+use Rattle.number.specs.declared.DecimalError.TheVariants.{NotPlain, Above}
+use Rattle.number.specs.declared.DecimalError.{DecimalError}
 
 -- the answer for a number above the bound, by the bytes that are left
-abbrev pub answer_above : List ℕ → Decimal
-answer_above bs = cond (all_digits bs) Above NotPlain
+abbrev pub answer_above : List ℕ → Result ℕ DecimalError
+answer_above bs = cond (all_digits bs) (Err Above) (Err NotPlain)
 
 -- the answer after n was read, by the bytes that are left
-abbrev pub answer_after : ℕ → ℕ → List ℕ → Decimal
-answer_after most n bs = cond (all_digits bs) (cond (leb (value_from n bs) most) (Value (value_from n bs)) Above) NotPlain
+abbrev pub answer_after : ℕ → ℕ → List ℕ → Result ℕ DecimalError
+answer_after most n bs = cond (all_digits bs) (cond (leb (value_from n bs) most) (Ok (value_from n bs)) (Err Above)) (Err NotPlain)
 
 value_grows : (bs : List ℕ) (n : ℕ) → n ≤ value_from n bs
 value_grows [] n = omega arith
@@ -48,7 +49,7 @@ module _ (b : ℕ) (bs : List ℕ) where
   after-digit : (most n : ℕ) → is_digit b ≡ true → answer_after most n (b ∷ bs) ≡ answer_after most (n * 10 + (b - 48)) bs
   after-digit most n e = rw e
 
-  after-other : (most n : ℕ) → is_digit b ≡ false → answer_after most n (b ∷ bs) ≡ NotPlain
+  after-other : (most n : ℕ) → is_digit b ≡ false → answer_after most n (b ∷ bs) ≡ Err NotPlain
   after-other most n e = rw e
 
 after-above : (bs : List ℕ) (most n : ℕ) → most < n → answer_after most n bs ≡ answer_above bs
@@ -63,12 +64,12 @@ pub scan_begin : {s : List ℕ} {from : ℕ} → Scanning s from from
 scan_begin = record { whole = refl }
 
 module _ {s : List ℕ} {from i : ℕ} (r : Scanning s from i) where
-  pub scan_end : length s ≤ i → Above ≡ answer_above (drop from s)
+  pub scan_end : length s ≤ i → (Err Above) ≡ answer_above (drop from s)
   scan_end h =
       let e : true ≡ all_digits (drop from s) = rw (drop_of_length-le s h) at r.whole in
       rw (← e)
 
-  pub scan_off : {t : Bool} → i < length s → t ≡ is_digit (get_or s i 0) → not t ≡ true → NotPlain ≡ answer_above (drop from s)
+  pub scan_off : {t : Bool} → i < length s → t ≡ is_digit (get_or s i 0) → not t ≡ true → (Err NotPlain) ≡ answer_above (drop from s)
   scan_off {t} h e f = rw (← r.whole, drop-step s i h, ← e, not-true t f)
 
   pub scan_on : i < length s → Digit (get_or s i 0) → Scanning s from (i + 1)
@@ -86,17 +87,17 @@ read_begin {most} {s} e = record { bound = omega arith; whole = rw (e, and-true)
 
 module _ {most : ℕ} {s : List ℕ} {n i : ℕ} (r : Reading most s n i) where
   -- what is answered behind the last byte
-  at_end : length s ≤ i → cond (leb n most) (Value n) Above ≡ decimal_up_to most s
+  at_end : length s ≤ i → cond (leb n most) (Ok n) (Err Above) ≡ decimal_up_to most s
   at_end h = sym (rw (drop_of_length-le s h)) ∙ r.whole
 
-  pub read-value : length s ≤ i → n ≤ most → Value n ≡ decimal_up_to most s
+  pub read-value : length s ≤ i → n ≤ most → Ok n ≡ decimal_up_to most s
   read-value h k = rw (le-leb n most k) at (at_end h)
 
-  pub read_above : length s ≤ i → most < n → Above ≡ decimal_up_to most s
+  pub read_above : length s ≤ i → most < n → (Err Above) ≡ decimal_up_to most s
   read_above h k = rw (lt-leb n most k) at (at_end h)
 
   module _ (inside : i < length s) where
-    pub read_off : {t : Bool} → t ≡ is_digit (get_or s i 0) → not t ≡ true → NotPlain ≡ decimal_up_to most s
+    pub read_off : {t : Bool} → t ≡ is_digit (get_or s i 0) → not t ≡ true → (Err NotPlain) ≡ decimal_up_to most s
     read_off {t} e f = sym (rw (drop-step s i inside) (after-other (get_or s i 0) (drop (i + 1) s) most n (sym e ∙ not-true t f))) ∙ r.whole
 
     pub read-on : Digit (get_or s i 0) → Reading most s (n * 10 + (get_or s i 0 - 48)) (i + 1)
@@ -136,18 +137,18 @@ module _ {most : ℕ} {s : List ℕ} {n i : ℕ} (r : Short most s n i) (inside 
 
 -- ---- the first byte
 
-pub read-empty : (most : ℕ) (s : List ℕ) → length s ≡ 0 → NotPlain ≡ decimal_up_to most s
+pub read-empty : (most : ℕ) (s : List ℕ) → length s ≡ 0 → (Err NotPlain) ≡ decimal_up_to most s
 unfolding decimal_up_to plain_decimal
 read-empty most [] h = refl
 read-empty most (b ∷ bs) h = absurd (omega arith)
 
-pub read-zero : (most : ℕ) (s : List ℕ) → length s ≡ 1 → get_or s 0 0 ≡ 48 → Value 0 ≡ decimal_up_to most s
+pub read-zero : (most : ℕ) (s : List ℕ) → length s ≡ 1 → get_or s 0 0 ≡ 48 → Ok 0 ≡ decimal_up_to most s
 unfolding decimal_up_to plain_decimal value
 read-zero most [] h e = absurd (omega arith)
 read-zero most (b ∷ []) h e = rw (e, le-leb 0 most (omega arith))
 read-zero most (b ∷ c ∷ bs) h e = absurd (omega arith)
 
-pub read-leading : (most : ℕ) (s : List ℕ) → 1 < length s → get_or s 0 0 ≡ 48 → NotPlain ≡ decimal_up_to most s
+pub read-leading : (most : ℕ) (s : List ℕ) → 1 < length s → get_or s 0 0 ≡ 48 → (Err NotPlain) ≡ decimal_up_to most s
 unfolding decimal_up_to plain_decimal
 read-leading most [] h e = absurd (omega arith)
 read-leading most (b ∷ []) h e = absurd (omega arith)

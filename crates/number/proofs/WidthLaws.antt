@@ -1,4 +1,5 @@
 -- Loading and storing a number byte by byte, over any width.
+use Rattle.std.specs.Prelude.{Some, None}
 use Prim.Native.Nat.{ℕ, zero, suc, ◌+◌, ◌-◌, ◌*◌, ◌/◌, ◌%◌, ◌^◌, ◌<◌, ◌≤◌}
 use mathlib.Core.Path.{◌≡◌, refl, sym, ◌∙◌}
 use mathlib.Core.Bool.{Bool, false}
@@ -13,15 +14,13 @@ use lib.ListN.{length, get_or, set, drop}
 use lib.Seq.{drop-drop}
 use borrow.Author.Tests.{le-leb}
 use Rattle.slices.specs.Put.{left, placed}
-use Rattle.slices.specs.declared.Placed.TheVariants.{End}
 use Rattle.slices.proofs.PutLaws.{Putting, put_begin, put_more, put-end, placed-room}
 use Rattle.number.specs.LittleEndian.{little_endian, little, loaded}
-use Rattle.number.specs.declared.Loaded.TheVariants.{Number, Outside}
 use Rattle.number.proofs.LittleEndianLaws.{length-little_endian, little-add, little-one}
 
 -- ---- the loop that loads
 
-pub outside : (width : ℕ) (s : List ℕ) (at : ℕ) {t : Bool} → t ≡ leb (at + width) (length s) → t ≡ false → Outside ≡ loaded width s at
+pub outside : (width : ℕ) (s : List ℕ) (at : ℕ) {t : Bool} → t ≡ leb (at + width) (length s) → t ≡ false → None ≡ loaded width s at
 unfolding loaded
 outside width s at e f = rw (← e, f)
 
@@ -46,7 +45,7 @@ pub load_begin : {s : List ℕ} {at width : ℕ} → width ≤ 8 → at + width 
 load_begin f h = record { few = f; room = h; bound = omega arith; read = refl; fits = omega arith }
 
 module _ {s : List ℕ} {at width n i : ℕ} (r : Loading s at width n i) where
-  pub load_end : width ≤ i → Number n ≡ loaded width s at
+  pub load_end : width ≤ i → Some n ≡ loaded width s at
   unfolding loaded
   load_end h =
       let e : i ≡ width = omega (arith, r.bound) in
@@ -90,7 +89,7 @@ module _ {out₀ : List ℕ} {at width value : ℕ} {out : List ℕ} {v i : ℕ}
         putting = rw (← add_assoc) (put_more (rw e at r.putting));
       }
 
-  pub store_end : width ≤ i → left (End (at + i)) out ≡ placed out₀ at (little_endian width value)
+  pub store_end : width ≤ i → left (Some (at + i)) out ≡ placed out₀ at (little_endian width value)
   store_end h =
       let l : length (little_endian width value) ≡ width = length-little_endian width value in
       let e : i ≡ length (little_endian width value) = omega (arith, r.bound) in

@@ -1,9 +1,9 @@
 -- Plain decimal, both ways. Document 01: "Decimal without leading zeros", "Plain decimal has a digit and no leading zero
 -- but "0" itself".
-use Rattle.std.specs.Prelude.{ℕ, zero, suc, ◌+◌, ◌*◌, ◌-◌, ◌/◌, ◌%◌, Bool, true, false, ◌&&◌, not, cond, List, [], ◌∷◌, ◌++◌, leb, ltb, eqb}
+use Rattle.std.specs.Prelude.{ℕ, zero, suc, ◌+◌, ◌*◌, ◌-◌, ◌/◌, ◌%◌, Bool, true, false, ◌&&◌, not, cond, List, [], ◌∷◌, ◌++◌, leb, ltb, eqb, Result, Ok, Err}
 use Rattle.slices.specs.Tests.{every}
-use Rattle.number.specs.declared.Decimal.{Decimal}
-use Rattle.number.specs.declared.Decimal.TheVariants.{Value, NotPlain, Above}
+use Rattle.number.specs.declared.DecimalError.TheVariants.{NotPlain, Above}
+use Rattle.number.specs.declared.DecimalError.{DecimalError}
 
 -- ---- writing
 
@@ -48,5 +48,5 @@ unfoldable pub value : List ℕ → ℕ
 value bs = value_from 0 bs
 
 -- the number, if it is plain decimal and at most `most`
-unfoldable pub decimal_up_to : ℕ → List ℕ → Decimal
-decimal_up_to most bs = cond (plain_decimal bs) (cond (leb (value bs) most) (Value (value bs)) Above) NotPlain
+unfoldable pub decimal_up_to : ℕ → List ℕ → Result ℕ DecimalError
+decimal_up_to most bs = cond (plain_decimal bs) (cond (leb (value bs) most) (Ok (value bs)) (Err Above)) (Err NotPlain)

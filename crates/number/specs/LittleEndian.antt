@@ -1,7 +1,5 @@
 -- Numbers as bytes, the lowest first, at any width.
-use Rattle.std.specs.Prelude.{ℕ, zero, suc, ◌+◌, ◌*◌, ◌/◌, ◌%◌, cond, List, [], ◌∷◌, leb, length, drop}
-use Rattle.number.specs.declared.Loaded.{Loaded}
-use Rattle.number.specs.declared.Loaded.TheVariants.{Number, Outside}
+use Rattle.std.specs.Prelude.{ℕ, zero, suc, ◌+◌, ◌*◌, ◌/◌, ◌%◌, cond, List, [], ◌∷◌, leb, length, drop, Option, Some, None}
 
 -- a number as so many bytes
 abbrev pub little_endian : ℕ → ℕ → List ℕ
@@ -15,5 +13,5 @@ little (suc width) [] = 0
 little (suc width) (b ∷ bs) = b + 256 * little width bs
 
 -- the number that lies at a place, if it lies inside
-unfoldable pub loaded : ℕ → List ℕ → ℕ → Loaded
-loaded width bs at = cond (leb (at + width) (length bs)) (Number (little width (drop at bs))) Outside
+unfoldable pub loaded : ℕ → List ℕ → ℕ → Option ℕ
+loaded width bs at = cond (leb (at + width) (length bs)) (Some (little width (drop at bs))) None

@@ -1,26 +1,17 @@
 // Plain decimal and little-endian numbers, both ways.
 #![tactic(auto)]
 
-ghost use Rattle.std.specs.Prelude.{◌≡◌, true, cond, ◌+◌, ◌-◌, ◌*◌, ◌/◌, ◌%◌, ◌^◌, ◌≤◌, ◌<◌, ltb, length, drop};
+ghost use Rattle.std.specs.Prelude.{◌≡◌, true, cond, ◌+◌, ◌-◌, ◌*◌, ◌/◌, ◌%◌, ◌^◌, ◌≤◌, ◌<◌, ltb, length, drop, Err};
 ghost use Rattle.slices.specs.Put.{put, left, placed};
 ghost use Rattle.number.specs.Decimal.{decimal, two_digits, decimal_up_to, is_digit, all_digits, no_leading_zero};
 ghost use Rattle.number.specs.LittleEndian.{little_endian, loaded};
+ghost use Rattle.number.specs.declared.DecimalError.TheVariants.{NotPlain, Above};
 
-use slices::Placed;
-
-// What a run of bytes says as plain decimal: a number up to a bound; no plain decimal; or a number above the bound.
-#[derive(Clone, Copy)]
-pub enum Decimal {
-    Value(u64),
+// Why a run of bytes is no number up to a bound: it is no plain decimal, or it says a number above the bound.
+#[derive(Clone, Copy, Debug, PartialEq, Eq)]
+pub enum DecimalError {
     NotPlain,
     Above,
-}
-
-// The number at a place, or that it doesn't lie inside.
-#[derive(Clone, Copy)]
-pub enum Loaded {
-    Number(u64),
-    Outside,
 }
 
 // So many digits fit a u64, whatever they are: 10 ^ 19 < 2 ^ 64.
@@ -33,21 +24,21 @@ fn is_digit(b: u8) -> bool
 }
 
 // What a value above the bound answers: any later byte that is no digit makes it no decimal at all.
-fn above(s: &[u8], from: usize) -> Decimal
-    ensures { result ≡ cond (all_digits (drop from s.now)) Decimal.Above Decimal.NotPlain }
+fn above(s: &[u8], from: usize) -> Result<u64, DecimalError>
+    ensures { result ≡ cond (all_digits (drop from s.now)) (Err Above) (Err NotPlain) }
 {
     let mut i = from;
     while i < s.len() {
         if !is_digit(s[i]) {
-            return Decimal::NotPlain;
+            return Err(DecimalError::NotPlain);
         }
         i += 1;
     }
-    Decimal::Above
+    Err(DecimalError::Above)
 }
 
 // Few digits: no step can wrap, so the bound is asked once, behind the last of them.
-fn read_short(s: &[u8], most: u64) -> Decimal
+fn read_short(s: &[u8], most: u64) -> Result<u64, DecimalError>
     requires { (no_leading_zero s.now ≡ true) × (length s.now ≤ 19) }
     ensures { result ≡ decimal_up_to most s.now }
 {
@@ -56,20 +47,20 @@ fn read_short(s: &[u8], most: u64) -> Decimal
     while i < s.len() {
         let b = s[i];
         if !is_digit(b) {
-            return Decimal::NotPlain;
+            return Err(DecimalError::NotPlain);
         }
         n = n * 10 + (b - b'0') as u64;
         i += 1;
     }
     if n <= most {
-        Decimal::Value(n)
+        Ok(n)
     } else {
-        Decimal::Above
+        Err(DecimalError::Above)
     }
 }
 
 // Any number of digits: the bound is asked before each is taken in, with no division in the loop.
-fn read_long(s: &[u8], most: u64) -> Decimal
+fn read_long(s: &[u8], most: u64) -> Result<u64, DecimalError>
     requires { no_leading_zero s.now ≡ true }
     ensures { result ≡ decimal_up_to most s.now }
 {
@@ -79,7 +70,7 @@ fn read_long(s: &[u8], most: u64) -> Decimal
     while i < s.len() {
         let b = s[i];
         if !is_digit(b) {
-            return Decimal::NotPlain;
+            return Err(DecimalError::NotPlain);
         }
         let d = (b - b'0') as u64;
         if tenth < n {
@@ -91,21 +82,21 @@ fn read_long(s: &[u8], most: u64) -> Decimal
         n = n * 10 + d;
         i += 1;
     }
-    Decimal::Value(n)
+    Ok(n)
 }
 
 // Plain decimal of at most `most`. Twenty and more digits never wrap: a value above the bound stays above it.
-pub fn read_decimal(s: &[u8], most: u64) -> Decimal
+pub fn read_decimal(s: &[u8], most: u64) -> Result<u64, DecimalError>
     ensures { result ≡ decimal_up_to most s.now }
 {
     if s.len() == 0 {
-        return Decimal::NotPlain;
+        return Err(DecimalError::NotPlain);
     }
     if s[0] == b'0' {
         if s.len() == 1 {
-            return Decimal::Value(0);
+            return Ok(0);
         }
-        return Decimal::NotPlain;
+        return Err(DecimalError::NotPlain);
     }
     if s.len() <= SAFE_DIGITS {
         read_short(s, most)
@@ -336,20 +327,20 @@ pub fn write_decimal(value: u64, digits: usize, out: &mut [u8], at: usize)
 }
 
 // One digit put at a place, if there is room for it.
-fn print_digit(value: u64, out: &mut [u8], at: usize) -> Placed
+fn print_digit(value: u64, out: &mut [u8], at: usize) -> Option<usize>
     requires { value < 10 }
     ensures { left result out.new ≡ placed out.old at (decimal value) }
 {
     if !slices::has_room(out.len(), at, 1) {
-        return Placed::NoRoom;
+        return None;
     }
     out[at] = b'0' + value as u8;
     let end = at + 1;
-    Placed::End(end)
+    Some(end)
 }
 
 // A number's decimal digits put at a place, if there is room for them. One digit has a way of its own: it is as quick as ever.
-pub fn print_decimal(value: u64, out: &mut [u8], at: usize) -> Placed
+pub fn print_decimal(value: u64, out: &mut [u8], at: usize) -> Option<usize>
     ensures { left result out.new ≡ placed out.old at (decimal value) }
 {
     if value < 10 {
@@ -357,21 +348,21 @@ pub fn print_decimal(value: u64, out: &mut [u8], at: usize) -> Placed
     }
     let digits = decimal_length(value);
     if !slices::has_room(out.len(), at, digits) {
-        return Placed::NoRoom;
+        return None;
     }
     write_decimal(value, digits, out, at);
     let end = at + digits;
-    Placed::End(end)
+    Some(end)
 }
 
 // The number in so many bytes at a place, if they lie inside. Each byte is shifted to its own place in the word, so that the
 // compiler sees one load.
-fn load(s: &[u8], at: usize, width: usize) -> Loaded
+fn load(s: &[u8], at: usize, width: usize) -> Option<u64>
     requires { width ≤ 8 }
     ensures { result ≡ loaded width s.now at }
 {
     if !slices::has_room(s.len(), at, width) {
-        return Loaded::Outside;
+        return None;
     }
     let mut n: u64 = 0;
     let mut i = 0;
@@ -379,21 +370,21 @@ fn load(s: &[u8], at: usize, width: usize) -> Loaded
         n = n + ((s[at + i] as u64) << (8 * i));
         i += 1;
     }
-    Loaded::Number(n)
+    Some(n)
 }
 
-pub fn load_u64(s: &[u8], at: usize) -> Loaded
+pub fn load_u64(s: &[u8], at: usize) -> Option<u64>
     ensures { result ≡ loaded 8 s.now at }
 {
     load(s, at, 8)
 }
 
 // So many low bytes of a number put at a place, if there is room for them.
-fn store(value: u64, out: &mut [u8], at: usize, width: usize) -> Placed
+fn store(value: u64, out: &mut [u8], at: usize, width: usize) -> Option<usize>
     ensures { left result out.new ≡ placed out.old at (little_endian width value) }
 {
     if !slices::has_room(out.len(), at, width) {
-        return Placed::NoRoom;
+        return None;
     }
     let mut v = value;
     let mut i = 0;
@@ -402,10 +393,10 @@ fn store(value: u64, out: &mut [u8], at: usize, width: usize) -> Placed
         v = v / 256;
         i += 1;
     }
-    Placed::End(at + i)
+    Some(at + i)
 }
 
-pub fn store_u64(value: u64, out: &mut [u8], at: usize) -> Placed
+pub fn store_u64(value: u64, out: &mut [u8], at: usize) -> Option<usize>
     ensures { left result out.new ≡ placed out.old at (little_endian 8 value) }
 {
     store(value, out, at, 8)

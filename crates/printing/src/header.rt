@@ -1,6 +1,5 @@
 // The header of a line, as a whole line without text: put by `line` if there is room for it.
 use record::Heading;
-use slices::Placed;
 
 // Puts a header at a place, and answers the place behind it.
 pub fn header(
@@ -27,7 +26,7 @@ pub fn header(
     };
     let none = b"";
     let room = &mut out[at..];
-    let Placed::End(bytes) = line::place_line(h, none, none, none, none, room) else {
+    let Some(bytes) = line::place_line(h, none, none, none, none, room) else {
         return at;
     };
     at.wrapping_add(bytes)

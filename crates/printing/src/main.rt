@@ -7,8 +7,7 @@
 
 mod header;
 
-use number::Decimal;
-use slices::{Found, Placed};
+use number::DecimalError;
 use std::io;
 
 // All numbers of an input, the first two among them.
@@ -49,10 +48,10 @@ fn number_at(s: &[u8], at: usize) -> Read {
         return Read::Nothing;
     }
     let rest = &s[at..];
-    let Found::At(end) = slices::find(rest, b'\n') else {
+    let Some(end) = slices::find(rest, b'\n') else {
         return Read::Nothing;
     };
-    let Decimal::Value(value) = number::read_decimal(slices::front(rest, end), u64::MAX) else {
+    let Ok(value) = number::read_decimal(slices::front(rest, end), u64::MAX) else {
         return Read::Nothing;
     };
     let newline = at.wrapping_add(end);
@@ -105,7 +104,7 @@ fn understand(what: u64, times: u64, numbers: usize) -> Asked {
 
 // Puts a number at a place, and answers the place behind it.
 fn print_number(value: u64, out: &mut [u8], at: usize) -> usize {
-    let Placed::End(end) = number::print_decimal(value, out, at) else {
+    let Some(end) = number::print_decimal(value, out, at) else {
         return at;
     };
     end

@@ -1,4 +1,5 @@
 -- Demand 1 over every call of the product: the log's part is the history's, and the rest is a case on what each definition tests.
+use Rattle.std.specs.Prelude.{Some, None}
 use Prim.Native.Nat.{ℕ, ◌≤◌}
 use mathlib.Core.Path.{◌≡◌, refl, ap, ap₂, sym, ◌∙◌}
 use mathlib.Core.Logic.{inl, inr}
@@ -12,7 +13,6 @@ use lib.IntN.{ℤ, pos, negsuc}
 use lib.ListN.{length}
 use Rattle.slices.specs.Put.{Left, placed, put}
 use Rattle.slices.specs.Put.{left as putLeft}
-use Rattle.slices.specs.declared.Placed.TheVariants.{End, NoRoom}
 use Rattle.slices.proofs.Bools.{or-true}
 use Rattle.record.specs.Limits.{payload_most}
 use Rattle.record.specs.Record.{Record}
@@ -177,7 +177,7 @@ module _ (input buffer out : List ℕ) where
   bytes = output buffer input
 
   abbrev put_by : Bool → Left
-  put_by t = cond t (putLeft (End (length bytes)) (put out 0 bytes)) (putLeft NoRoom out)
+  put_by t = cond t (putLeft (Some (length bytes)) (put out 0 bytes)) (putLeft None out)
 
   put_is : placed out 0 bytes ≡ put_by (leb (length bytes) (length out))
   unfolding placed

@@ -5,11 +5,10 @@
 
 mod tally;
 
-use eventlog::{Answer, Log};
+use eventlog::Log;
 use kmsg::Reader;
-use number::Decimal;
+use number::DecimalError;
 use record::Heading;
-use slices::Found;
 use std::io;
 use tally::Tally;
 
@@ -36,20 +35,20 @@ enum Asked {
 }
 
 fn understand(s: &[u8]) -> Asked {
-    let Found::At(space) = slices::find(s, b' ') else {
+    let Some(space) = slices::find(s, b' ') else {
         return Asked::Nothing;
     };
     let rest = slices::past(s, space);
-    let Found::At(end) = slices::find(rest, b'\n') else {
+    let Some(end) = slices::find(rest, b'\n') else {
         return Asked::Nothing;
     };
-    let Decimal::Value(bytes) = number::read_decimal(
+    let Ok(bytes) = number::read_decimal(
         slices::front(s, space),
         Heading::PAYLOAD as u64,
     ) else {
         return Asked::Nothing;
     };
-    let Decimal::Value(times) = number::read_decimal(slices::front(rest, end), TIMES_MOST) else {
+    let Ok(times) = number::read_decimal(slices::front(rest, end), TIMES_MOST) else {
         return Asked::Nothing;
     };
     Asked::Records(bytes as usize, times)
@@ -98,7 +97,7 @@ fn read_through(log: Log, buffer: &[u8], lent: &mut [u8], before: Tally) -> Tall
     while n < RECORDS {
         let given = kmsg::read(reader, log, buffer, lent);
         let answer = given.answer;
-        let Answer::Done(bytes) = answer else {
+        let Ok(bytes) = answer else {
             return tally;
         };
         tally = tally.with(slices::front(lent, bytes as usize));

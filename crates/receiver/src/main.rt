@@ -7,7 +7,6 @@ ghost use Rattle.feed.specs.Longest.{report_most};
 
 use board::Board;
 use feed::Received;
-use slices::Placed;
 use std::io;
 
 // How many bytes of a buffer that has room for any report are written: no input leaves it without room.
@@ -15,7 +14,7 @@ fn answer(input: &[u8], buffer: &mut [u8], out: &mut [u8]) -> usize
     requires { report_most ≤ length out.old }
     ensures { take result out.new ≡ output buffer.old input.now }
 {
-    let Placed::End(end) = feed::run(input, buffer, out) else {
+    let Some(end) = feed::run(input, buffer, out) else {
         return 0;
     };
     end

@@ -2,7 +2,6 @@
 use crate::state;
 use crate::state::{BoardCalled, Called, State};
 use board::{Board, Slot};
-use channel::Newest as Shown;
 use script::answers::Told;
 use script::lent::Space;
 use script::words::{Bytes, Words};
@@ -17,15 +16,15 @@ pub fn fresh(state: State, words: Words, slots: &mut Slots) -> Called {
     state::left(state.with_board(Board::new()), Told::form(0))
 }
 
-fn same_shown(a: Shown, b: Shown) -> bool {
+fn same_shown(a: Option<Seq>, b: Option<Seq>) -> bool {
     match a {
-        Shown::Nothing => match b {
-            Shown::Nothing => true,
-            Shown::Record(_) => false,
+        None => match b {
+            None => true,
+            Some(_) => false,
         },
-        Shown::Record(x) => match b {
-            Shown::Nothing => false,
-            Shown::Record(y) => x.0 == y.0,
+        Some(x) => match b {
+            None => false,
+            Some(y) => x.0 == y.0,
         },
     }
 }
@@ -89,8 +88,8 @@ fn deliver(
 fn shown_told(slot: Slot, bytes: usize) -> Told {
     let shown = slot.shown;
     match shown {
-        Shown::Nothing => Told::number(slot.size as u64),
-        Shown::Record(number) => {
+        None => Told::number(slot.size as u64),
+        Some(number) => {
             let mut told = Told::number(number.0).meaning(1);
             told.n1 = slot.size as u64;
             told.with_bytes(bytes)

@@ -1,8 +1,7 @@
 // The joiner of a rehearsal, and the script's calls on it.
 use crate::state;
 use crate::state::{Called, JoinerCalled, State};
-use channel::Place;
-use joiner::{Answer, Joiner, Length, Text};
+use joiner::{Answer, Joiner, Text};
 use script::answers::Told;
 use script::lent::Space;
 use script::words::{Bytes, Words};
@@ -29,15 +28,15 @@ struct Stretch {
 }
 
 // The bytes of an open text; none, where none is open.
-fn bytes_of(length: Length) -> usize {
+fn bytes_of(length: Option<usize>) -> usize {
     match length {
-        Length::Nothing => 0,
-        Length::Bytes(n) => n,
+        None => 0,
+        Some(n) => n,
     }
 }
 
 fn length_at(joiner: Joiner, k: usize) -> usize {
-    if Place::CHANNELS <= k {
+    if channel::CHANNELS <= k {
         return 0;
     }
     let slots = joiner.slots;
@@ -49,7 +48,7 @@ fn length_at(joiner: Joiner, k: usize) -> usize {
 // Of a place's text all bytes behind the first so many.
 fn behind(joiner: Joiner, k: usize, kept: usize) -> Stretch {
     let n = length_at(joiner, k);
-    let from = decimals::size(k as u64, Place::CHANNELS) * Joiner::TEXT;
+    let from = decimals::size(k as u64, channel::CHANNELS) * Joiner::TEXT;
     if n < kept {
         return Stretch { from, size: 0 };
     }
@@ -62,7 +61,7 @@ fn behind(joiner: Joiner, k: usize, kept: usize) -> Stretch {
 // A message that gives no text is put behind the open text of its place, which is then longer.
 fn lengthened(was: Joiner, joiner: Joiner) -> Stretch {
     let mut k = 0;
-    while k < Place::CHANNELS {
+    while k < channel::CHANNELS {
         let kept = length_at(was, k);
         if length_at(joiner, k) != kept {
             return behind(joiner, k, kept);
@@ -74,10 +73,10 @@ fn lengthened(was: Joiner, joiner: Joiner) -> Stretch {
 
 // The place of a facility: none, for one below the first.
 fn place_of(facility: u64) -> usize {
-    if facility < Place::FIRST {
-        return Place::CHANNELS;
+    if facility < channel::FIRST {
+        return channel::CHANNELS;
     }
-    decimals::size(facility - Place::FIRST, Place::CHANNELS)
+    decimals::size(facility - channel::FIRST, channel::CHANNELS)
 }
 
 // One that closes a text, and doesn't stand alone, opens a new one in its place.
@@ -194,18 +193,18 @@ fn close(joiner: Joiner, texts: &Texts, space: &mut Space) -> JoinerCalled {
     }
 }
 
-fn length_told(length: Length, k: usize, texts: &Texts, space: &mut Space) -> Told {
-    let Length::Bytes(n) = length else {
+fn length_told(length: Option<usize>, k: usize, texts: &Texts, space: &mut Space) -> Told {
+    let Some(n) = length else {
         return Told::form(0);
     };
-    let from = decimals::size(k as u64, Place::CHANNELS) * Joiner::TEXT;
+    let from = decimals::size(k as u64, channel::CHANNELS) * Joiner::TEXT;
     let text = lent::part(texts, from, n);
     slices::copy(text, space, 0);
     Told::form(1).with_bytes(text.len())
 }
 
 fn open_told(joiner: Joiner, k: usize, texts: &Texts, space: &mut Space) -> Told {
-    if Place::CHANNELS <= k {
+    if channel::CHANNELS <= k {
         return Told::no_call();
     }
     let slots = joiner.slots;

@@ -4,10 +4,7 @@ use crate::joiner_calls::Texts;
 use crate::log_calls::Buffer;
 use crate::state::{Called, State};
 use crate::trail_calls::Disk;
-use crate::{
-    board_calls, command_calls, joiner_calls, log_calls, reader_calls, renderer_calls, state,
-    trail_calls, write_calls,
-};
+use crate::{, board_calls, command_calls, joiner_calls, log_calls, reader_calls, renderer_calls, state, trail_calls, write_calls};
 use script::answers::Told;
 use script::input::{Chunk, Line, Unread};
 use script::lent::Space;

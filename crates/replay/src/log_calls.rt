@@ -1,8 +1,8 @@
 // The log of a rehearsal, and the script's calls on the log itself.
 use crate::state;
 use crate::state::{Called, State};
-use console::{Console, Saved};
-use eventlog::{Log, Verdict};
+use console::Console;
+use eventlog::{Log, Misfit};
 use record::Seq;
 use ring::Place;
 use script::answers::Told;
@@ -23,7 +23,7 @@ pub fn fresh(before: State, words: Words, buffer: &mut Buffer) -> Called {
     state::left(state, Told::form(0))
 }
 
-fn setting(level: u64, minimum: u64, saved: Saved) -> Console {
+fn setting(level: u64, minimum: u64, saved: Option<u64>) -> Console {
     Console {
         level,
         minimum,
@@ -36,8 +36,8 @@ fn with_setting(console: Console, row: u8, n: u64) -> Console {
     let level = console.level;
     let minimum = console.minimum;
     let saved = console.saved;
-    let by_hand = Saved::Level(n);
-    let nothing = Saved::Nothing;
+    let by_hand = Some(n);
+    let nothing = None;
     match row {
         b'7' => setting(n, minimum, saved),
         b'8' => setting(level, n, saved),
@@ -73,11 +73,11 @@ pub fn set_number(state: State, words: Words) -> Called {
 }
 
 // What the log check tells.
-fn verdict_told(verdict: Verdict) -> Told {
+fn verdict_told(verdict: Result<(), Misfit>) -> Told {
     match verdict {
-        Verdict::Fine => Told::form(0),
-        Verdict::Numbers => Told::form(1),
-        Verdict::Heading(k) => Told::number(k).meaning(2),
+        Ok(()) => Told::form(0),
+        Err(Misfit::Numbers) => Told::form(1),
+        Err(Misfit::Heading(k)) => Told::number(k).meaning(2),
     }
 }
 
@@ -86,11 +86,11 @@ fn check(log: Log, ring: &[u8]) -> Told {
 }
 
 // The saved level as the last number, or that there is none.
-fn saved_told(told: Told, saved: Saved) -> Told {
+fn saved_told(told: Told, saved: Option<u64>) -> Told {
     let mut after = told;
     match saved {
-        Saved::Level(level) => after.n9 = level,
-        Saved::Nothing => after.meant = 1,
+        Some(level) => after.n9 = level,
+        None => after.meant = 1,
     }
     after
 }

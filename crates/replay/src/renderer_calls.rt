@@ -2,7 +2,6 @@
 use crate::state;
 use crate::state::{Called, State};
 use message::Shape;
-use number::Loaded;
 use record::Heading;
 use script::answers::Told;
 use script::lent::Space;
@@ -19,8 +18,8 @@ fn loaded(block: &Block, k: usize) -> u64 {
         return 0;
     }
     match number::load_u64(block, 8 * k) {
-        Loaded::Number(value) => value,
-        Loaded::Outside => 0,
+        Some(value) => value,
+        None => 0,
     }
 }
 

@@ -1,6 +1,6 @@
 // What a rehearsal keeps from line to line beside its buffers.
 use board::Board;
-use eventlog::{Answer, Log};
+use eventlog::Log;
 use joiner::Joiner;
 use savedtrail::Reader;
 use script::answers::Told;
@@ -123,14 +123,14 @@ pub fn with_joiner(state: State, called: JoinerCalled) -> Called {
 }
 
 // What an answer of the log tells.
-pub fn answered(answer: Answer) -> Told {
+pub fn answered(answer: Result<u32, Refusal>) -> Told {
     Told::signed(eventlog::answer_number(answer))
 }
 
 // How many bytes of a lent buffer an answer of the log counts.
-pub fn counted(answer: Answer) -> usize {
+pub fn counted(answer: Result<u32, Refusal>) -> usize {
     match answer {
-        Answer::Done(n) => n as usize,
-        Answer::No(_) => 0,
+        Ok(n) => n as usize,
+        Err(_) => 0,
     }
 }

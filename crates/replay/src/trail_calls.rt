@@ -1,7 +1,6 @@
 // The saved trails of a rehearsal: the image that a save left, the file that it is cut into, and the reader of that file.
 use crate::state;
 use crate::state::{Called, State};
-use eventlog::Answer;
 use image::{Ending, Fault};
 use record::Heading;
 use savedtrail::{Handed, Reader};
@@ -17,16 +16,16 @@ const BLOCK: usize = 512;
 // ---- the image
 
 // What a good save wrote is the image; a refused one leaves the old.
-fn kept(state: State, answer: Answer, lent: &[u8], image: &mut Disk) -> State {
+fn kept(state: State, answer: Result<u32, Refusal>, lent: &[u8], image: &mut Disk) -> State {
     let mut after = state;
-    if let Answer::Done(n) = answer {
+    if let Ok(n) = answer {
         slices::copy(slices::front(lent, n as usize), image, 0);
         after.image = n as usize;
     }
     after
 }
 
-fn saved(state: State, answer: Answer) -> Called {
+fn saved(state: State, answer: Result<u32, Refusal>) -> Called {
     let told = state::answered(answer);
     state::left(state, told.with_bytes(state::counted(answer)))
 }

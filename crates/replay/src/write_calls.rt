@@ -1,7 +1,7 @@
 // The script's writes, from outside and from the box.
 use crate::state;
 use crate::state::{Called, LogCalled, State};
-use eventlog::{Answer, Log};
+use eventlog::Log;
 use script::lent::Space;
 use script::words::{Bytes, Words};
 use script::{decimals, lent, words};
@@ -63,8 +63,8 @@ fn stayed(was: Log, written: Written, before: &[u8], after: &[u8]) -> bool {
     let from = end_of(was, after.len());
     let to = end_of(log, after.len());
     let cost = match answer {
-        Answer::Done(_) => lent::distance(from, to, after.len()),
-        Answer::No(_) => 0,
+        Ok(_) => lent::distance(from, to, after.len()),
+        Err(_) => 0,
     };
     lent::stayed_around(before, after, from, cost)
 }

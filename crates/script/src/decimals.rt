@@ -1,7 +1,7 @@
 // The numbers of a script: decimal with leading zeros allowed, and with a '-' in front where a call takes one.
 ghost use Rattle.std.specs.Prelude.{◌≤◌, length};
 
-use number::Decimal;
+use number::DecimalError;
 
 pub const WORD_MOST: u64 = 18446744073709551615;
 
@@ -34,18 +34,18 @@ fn leading_zeros(word: &[u8]) -> usize
 pub(crate) fn read(word: &[u8], most: u64) -> Num {
     let zeros = leading_zeros(word);
     match number::read_decimal(&word[zeros..], most) {
-        Decimal::Value(n) => Num::Value(n),
-        Decimal::NotPlain => Num::No,
-        Decimal::Above => Num::No,
+        Ok(n) => Num::Value(n),
+        Err(DecimalError::NotPlain) => Num::No,
+        Err(DecimalError::Above) => Num::No,
     }
 }
 
 // The largest number that a row of the vocabulary allows: any, where it names none.
 pub(crate) fn limit(most: &[u8]) -> u64 {
     match number::read_decimal(most, WORD_MOST) {
-        Decimal::Value(n) => n,
-        Decimal::NotPlain => WORD_MOST,
-        Decimal::Above => WORD_MOST,
+        Ok(n) => n,
+        Err(DecimalError::NotPlain) => WORD_MOST,
+        Err(DecimalError::Above) => WORD_MOST,
     }
 }
 

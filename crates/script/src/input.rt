@@ -1,6 +1,5 @@
 // Lines of standard input, taken from chunks of it.
 use crate::lent;
-use slices::Placed;
 use std::io;
 use std::io::{Input, Read};
 
@@ -36,8 +35,8 @@ fn refill(rt: &impl Input, chunk: &mut Chunk) -> io::Result<usize> {
 // A piece of a line put behind what has come of it.
 fn with_piece(piece: &[u8], line: &mut Line, length: usize) -> usize {
     match slices::copy(piece, line, length) {
-        Placed::End(end) => end,
-        Placed::NoRoom => LINE_MOST + 1,
+        Some(end) => end,
+        None => LINE_MOST + 1,
     }
 }
 

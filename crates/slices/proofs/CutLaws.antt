@@ -1,4 +1,5 @@
 -- Cutting what was put together, and the place of the first cut.
+use Rattle.std.specs.Prelude.{Some, None}
 use Prim.Native.Nat.{ℕ, zero, suc, ◌+◌, ◌-◌, ◌≤◌, ◌<◌}
 use mathlib.Core.Path.{◌≡◌, refl, ap, sym, ◌∙◌}
 use mathlib.Core.Bool.{Bool, true, false, ◌&&◌, ◌||◌, not, cond, true≢false, false≢true}
@@ -10,7 +11,6 @@ use native.Mathlib.Nat.{add-zero, zero-add, add_assoc}
 use lib.ListN.{length, get_or, take, drop, drop_of_length-le, length-drop}
 use lib.Seq.{drop-cons, take_all, take-take, take-nil, drop-length}
 use borrow.Author.Tests.{eq-eqb, ne_eqb, eqb-true, le-ltb, lt-ltb, ltb-true, ltb-false}
-use Rattle.slices.specs.declared.Found.TheVariants.{At, Nowhere}
 use Rattle.slices.specs.Cut.{has, before, after, on_first, pieces, parts, join, place}
 use Rattle.slices.proofs.Bools.{or_left, or_right}
 
@@ -113,10 +113,10 @@ module _ {s : List ℕ} {c i : ℕ} (r : Passed s c i) where
       let e : length (before c s) ≡ i + suc (length (before c (drop (suc i) s))) = rw (drop-cons s i 0 h, ne_eqb (get_or s i 0) c q) at r.passed in
       record { bound = omega arith; passed = rw add-one (omega arith) }
 
-pub found_it : (c : ℕ) (s : List ℕ) (i : ℕ) → i ≡ length (before c s) → i < length s → At i ≡ place c s
+pub found_it : (c : ℕ) (s : List ℕ) (i : ℕ) → i ≡ length (before c s) → i < length s → Some i ≡ place c s
 found_it c s i e h = rw (e, has-place c s, lt-ltb (length (before c s)) (length s) (omega arith))
 
-pub found_nowhere : (c : ℕ) (s : List ℕ) (i : ℕ) → i ≡ length (before c s) → length s ≤ i → Nowhere ≡ place c s
+pub found_nowhere : (c : ℕ) (s : List ℕ) (i : ℕ) → i ≡ length (before c s) → length s ≤ i → None ≡ place c s
 found_nowhere c s i e h = rw (has-place c s, le-ltb (length (before c s)) (length s) (omega arith))
 
 -- ---- parts of a slice

@@ -1,4 +1,5 @@
 -- Bytes put into a buffer: one store after another, or all at once.
+use Rattle.std.specs.Prelude.{Some, None}
 use Prim.Native.Nat.{ℕ, zero, suc, ◌+◌, ◌-◌, ◌≤◌, ◌<◌}
 use mathlib.Core.Path.{◌≡◌, refl, ap, sym, ◌∙◌}
 use mathlib.Core.List.{List, [], ◌∷◌, ◌++◌, append_assoc}
@@ -12,7 +13,6 @@ use lib.Dec.{leb}
 use native.Mathlib.Decide.{dec_le}
 use borrow.Author.Tests.{le-leb, lt-leb, leb-true, leb-false}
 use Rattle.slices.specs.Put.{put, left, placed}
-use Rattle.slices.specs.declared.Placed.TheVariants.{End, NoRoom}
 
 -- one store after another is all at once
 pub sets-put : (out : List ℕ) (at : ℕ) (bytes : List ℕ) → at + length bytes ≤ length out → sets out at bytes ≡ put out at bytes
@@ -60,21 +60,21 @@ room-behind size at bytes h = elim (dec_le (at + bytes) size) [
 
 -- with room, and without
 pub placed-room : (out : List ℕ) (at : ℕ) (bytes : List ℕ) → at + length bytes ≤ length out
-    → placed out at bytes ≡ left (End (at + length bytes)) (put out at bytes)
+    → placed out at bytes ≡ left (Some (at + length bytes)) (put out at bytes)
 unfolding placed
 placed-room out at bytes h = rw (le-leb (at + length bytes) (length out) h)
 
-pub placed-none : (out : List ℕ) (at : ℕ) (bytes : List ℕ) → length out < at + length bytes → placed out at bytes ≡ left NoRoom out
+pub placed-none : (out : List ℕ) (at : ℕ) (bytes : List ℕ) → length out < at + length bytes → placed out at bytes ≡ left None out
 unfolding placed
 placed-none out at bytes h = rw (lt-leb (at + length bytes) (length out) h)
 
 -- the same from the answer to the question for room
-pub no_room : (out : List ℕ) (at : ℕ) (bytes : List ℕ) {t : Bool} → t ≡ leb (at + length bytes) (length out) → t ≡ false → left NoRoom out ≡ placed out at bytes
+pub no_room : (out : List ℕ) (at : ℕ) (bytes : List ℕ) {t : Bool} → t ≡ leb (at + length bytes) (length out) → t ≡ false → left None out ≡ placed out at bytes
 no_room out at bytes e f = sym (placed-none out at bytes (leb-false (at + length bytes) (length out) (sym e ∙ f)))
 
 -- and where the bytes were counted before
 pub no_room-counted : (out : List ℕ) (at : ℕ) (bytes : List ℕ) {count : ℕ} {t : Bool} → count ≡ length bytes → t ≡ leb (at + count) (length out) → t ≡ false
-    → left NoRoom out ≡ placed out at bytes
+    → left None out ≡ placed out at bytes
 no_room-counted out at bytes l e f = no_room out at bytes (rw (← l) e) f
 
 pub some-room : {n m : ℕ} {t : Bool} → t ≡ leb n m → t ≡ true → n ≤ m
@@ -121,7 +121,7 @@ module _ {bytes out₀ : List ℕ} {at : ℕ} {out : List ℕ} {i : ℕ} (r : Co
         putting = rw (← add_assoc) (put_more (rw (drop-step bytes i h) at r.putting));
       }
 
-  pub copy_end : length bytes ≤ i → left (End (at + i)) out ≡ placed out₀ at bytes
+  pub copy_end : length bytes ≤ i → left (Some (at + i)) out ≡ placed out₀ at bytes
   copy_end h =
       let e : i ≡ length bytes = omega (arith, r.bound) in
       rw (placed-room out₀ at bytes r.room, e, put-end (drop i bytes) (drop_of_length-le bytes h) r.room r.putting)

@@ -1,7 +1,5 @@
 -- Bytes cut at a byte: fields at commas, lines at newlines, a dictionary's entries at zero bytes.
-use Rattle.std.specs.Prelude.{ℕ, suc, Bool, true, false, ◌||◌, cond, List, [], ◌∷◌, ◌++◌, eqb, length}
-use Rattle.slices.specs.declared.Found.{Found}
-use Rattle.slices.specs.declared.Found.TheVariants.{At, Nowhere}
+use Rattle.std.specs.Prelude.{ℕ, suc, Bool, true, false, ◌||◌, cond, List, [], ◌∷◌, ◌++◌, eqb, length, Option, Some, None}
 
 -- c is among the bytes
 abbrev pub has : ℕ → List ℕ → Bool
@@ -49,5 +47,5 @@ join c (l ∷ []) = l
 join c (l ∷ k ∷ ls) = l ++ (c ∷ join c (k ∷ ls))
 
 -- the place of the first c
-abbrev pub place : ℕ → List ℕ → Found
-place c xs = cond (has c xs) (At (length (before c xs))) Nowhere
+abbrev pub place : ℕ → List ℕ → Option ℕ
+place c xs = cond (has c xs) (Some (length (before c xs))) None

@@ -1,7 +1,5 @@
 -- Bytes put into a buffer at a place, where there is room for them.
-use Rattle.std.specs.Prelude.{ℕ, ◌+◌, cond, List, ◌++◌, leb, length, take, drop}
-use Rattle.slices.specs.declared.Placed.{Placed}
-use Rattle.slices.specs.declared.Placed.TheVariants.{End, NoRoom}
+use Rattle.std.specs.Prelude.{ℕ, ◌+◌, cond, List, ◌++◌, leb, length, take, drop, Option, Some, None}
 
 -- all bytes before and behind them stay
 abbrev pub put : List ℕ → ℕ → List ℕ → List ℕ
@@ -9,15 +7,15 @@ put buffer at bytes = take at buffer ++ (bytes ++ drop (at + length bytes) buffe
 
 -- what a call that puts bytes leaves: its answer, and the buffer
 pub record Left : Type 0 where
-  pub answer : Placed
+  pub answer : Option ℕ
   pub buffer : List ℕ
 
-abbrev pub left : Placed → List ℕ → Left
+abbrev pub left : Option ℕ → List ℕ → Left
 left answer buffer = record { answer = answer; buffer = buffer }
 
 -- the bytes at their place, and the place behind them; or no room, and nothing changed
 unfoldable pub placed : List ℕ → ℕ → List ℕ → Left
 placed buffer at bytes =
     cond (leb (at + length bytes) (length buffer))
-    (left (End (at + length bytes)) (put buffer at bytes))
-    (left NoRoom buffer)
+    (left (Some (at + length bytes)) (put buffer at bytes))
+    (left None buffer)

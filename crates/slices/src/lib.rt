@@ -11,20 +11,6 @@ const STRIDE: usize = 16;
 // So many are counted in one go: their count fits a byte, so that the compiler's loop takes many at a time.
 const BLOCK: usize = 192;
 
-// Where a byte stands first.
-#[derive(Clone, Copy)]
-pub enum Found {
-    At(usize),
-    Nowhere,
-}
-
-// What putting bytes into a buffer answers: the place behind them, or that there was no room.
-#[derive(Clone, Copy)]
-pub enum Placed {
-    End(usize),
-    NoRoom,
-}
-
 // How many bytes stand before the first c: all, if there is none.
 pub fn until(s: &[u8], c: u8) -> usize
     ensures { result ≡ length (before c s.now) }
@@ -39,14 +25,14 @@ pub fn until(s: &[u8], c: u8) -> usize
     i
 }
 
-pub fn find(s: &[u8], c: u8) -> Found
+pub fn find(s: &[u8], c: u8) -> Option<usize>
     ensures { result ≡ place c s.now }
 {
     let i = until(s, c);
     if i < s.len() {
-        Found::At(i)
+        Some(i)
     } else {
-        Found::Nowhere
+        None
     }
 }
 
@@ -167,16 +153,16 @@ pub fn has_room(size: usize, at: usize, bytes: usize) -> bool
 }
 
 // Bytes put at a place, if there is room for them.
-pub fn copy(bytes: &[u8], out: &mut [u8], at: usize) -> Placed
+pub fn copy(bytes: &[u8], out: &mut [u8], at: usize) -> Option<usize>
     ensures { left result out.new ≡ placed out.old at bytes.now }
 {
     if !has_room(out.len(), at, bytes.len()) {
-        return Placed::NoRoom;
+        return None;
     }
     let mut i = 0;
     while i < bytes.len() {
         out[at + i] = bytes[i];
         i += 1;
     }
-    Placed::End(at + i)
+    Some(at + i)
 }

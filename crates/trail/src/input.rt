@@ -3,7 +3,6 @@
 // A reader wants the file as one run of bytes from its start, and a program has no memory but its stack, of 8 MiB as a rule. So 4 MiB of the input are held, many
 // times the longest image: a trail that ends or stops in there is told as it is, however long the input. One that goes on behind them, as no log of ours
 // leaves it, is told as that: the block behind them is held too, with a number that none has, and the reader stops there.
-use slices::Placed;
 use std::io::{Input as Source, Read};
 
 // What was read: how many bytes, and whether a read failed behind them.
@@ -38,8 +37,8 @@ fn with_piece(piece: &[u8], file: &mut File, at: usize) -> usize {
     }
     let room = Input::ROOM - at;
     match slices::copy(slices::front(piece, room), file, at) {
-        Placed::End(end) => end,
-        Placed::NoRoom => at,
+        Some(end) => end,
+        None => at,
     }
 }
 

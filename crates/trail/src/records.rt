@@ -2,7 +2,6 @@
 use image::Ending;
 use record::Heading;
 use savedtrail::{Reader, Told};
-use slices::Placed;
 
 pub type Result = [u8; Reader::RESULT_LEAST];
 
@@ -40,10 +39,10 @@ fn behind(res: &[u8], text: usize) -> &[u8] {
 // The line of a record, put at the front of a buffer that has room for the longest.
 fn place(h: Heading, text: &[u8], dictionary: &[u8], line: &mut Line) -> Placed {
     if Heading::PAYLOAD < text.len() {
-        return Placed::NoRoom;
+        return None;
     }
     if Heading::PAYLOAD - text.len() < dictionary.len() {
-        return Placed::NoRoom;
+        return None;
     }
     let none = slices::front(text, 0);
     line::place_line(h, text, none, dictionary, none, line)
@@ -57,8 +56,8 @@ fn place_record(h: Heading, res: &Result, line: &mut Line) -> Placed {
 
 fn print_record(rt: &impl Print, h: Heading, res: &Result, line: &mut Line) -> bool {
     match place_record(h, res, line) {
-        Placed::End(length) => rt.write_all(slices::front(line, length)).is_ok(),
-        Placed::NoRoom => false,
+        Some(length) => rt.write_all(slices::front(line, length)).is_ok(),
+        None => false,
     }
 }
 

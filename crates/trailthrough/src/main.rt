@@ -7,11 +7,10 @@
 
 mod tally;
 
-use eventlog::{Answer, Log};
-use number::Decimal;
+use eventlog::Log;
+use number::DecimalError;
 use record::Heading;
 use savedtrail::{Reader, Told};
-use slices::Found;
 use std::io;
 use tally::{Sum, Tally};
 
@@ -50,10 +49,10 @@ fn number_at(s: &[u8], at: usize, most: u64) -> Read {
         return Read::Nothing;
     }
     let rest = &s[at..];
-    let Found::At(end) = slices::find(rest, b'\n') else {
+    let Some(end) = slices::find(rest, b'\n') else {
         return Read::Nothing;
     };
-    let Decimal::Value(value) = number::read_decimal(slices::front(rest, end), most) else {
+    let Ok(value) = number::read_decimal(slices::front(rest, end), most) else {
         return Read::Nothing;
     };
     let newline = at.wrapping_add(end);
@@ -123,10 +122,10 @@ fn fill(buffer: &mut [u8], text: &[u8]) -> Log {
 // ---- saving
 
 // The bytes of an image; none where the save is refused.
-fn bytes_of(answer: Answer) -> usize {
+fn bytes_of(answer: Result<u32, Refusal>) -> usize {
     match answer {
-        Answer::Done(bytes) => bytes as usize,
-        Answer::No(_) => 0,
+        Ok(bytes) => bytes as usize,
+        Err(_) => 0,
     }
 }
 

@@ -4,11 +4,10 @@
 // Standard input is two numbers parted by a space and ended by a newline, the log's capacity and how often the message is written; then the message.
 #![tactic(auto)]
 
-use eventlog::{Answer, Log};
+use eventlog::Log;
 use kmsg::Reader;
-use number::Decimal;
+use number::DecimalError;
 use record::Heading;
-use slices::Found;
 use std::io;
 
 const INPUT: usize = 1024;
@@ -35,18 +34,18 @@ struct Told {
 
 // The number before the first `stop`.
 fn number_before(s: &[u8], stop: u8, most: u64) -> Decimal {
-    let Found::At(end) = slices::find(s, stop) else {
-        return Decimal::NotPlain;
+    let Some(end) = slices::find(s, stop) else {
+        return Err(DecimalError::NotPlain);
     };
     number::read_decimal(slices::front(s, end), most)
 }
 
 fn understand(line: &[u8]) -> Asked {
-    let Decimal::Value(capacity) = number_before(line, b' ', Log::CAPACITY_MOST as u64) else {
+    let Ok(capacity) = number_before(line, b' ', Log::CAPACITY_MOST as u64) else {
         return Asked::Nothing;
     };
     let rest = slices::past(line, slices::until(line, b' '));
-    let Decimal::Value(times) = number_before(rest, b'\n', TIMES_MOST) else {
+    let Ok(times) = number_before(rest, b'\n', TIMES_MOST) else {
         return Asked::Nothing;
     };
     Asked::Writes(capacity as usize, times)
@@ -62,10 +61,10 @@ fn first(buffer: &mut [u8], most: usize) -> &mut [u8] {
 }
 
 // The bytes that a write answers; none for one that is refused.
-fn bytes_of(answer: Answer) -> u64 {
+fn bytes_of(answer: Result<u32, Refusal>) -> u64 {
     match answer {
-        Answer::Done(bytes) => bytes as u64,
-        Answer::No(_) => 0,
+        Ok(bytes) => bytes as u64,
+        Err(_) => 0,
     }
 }
 
@@ -109,7 +108,7 @@ fn print_told(rt: &impl Print, told: Told) -> io::Result<()> {
 fn print_oldest(rt: &impl Print, log: Log, buffer: &[u8], lent: &mut [u8]) -> io::Result<()> {
     let given = kmsg::read(Reader::new(log), log, buffer, lent);
     let answer = given.answer;
-    let Answer::Done(bytes) = answer else {
+    let Ok(bytes) = answer else {
         return rt.write_all(b"no record is held\n");
     };
     rt.write_all(slices::front(lent, bytes as usize))

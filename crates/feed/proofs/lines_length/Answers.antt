@@ -24,10 +24,10 @@ overflow_sub-room c =
     let i = c.loop-i.i in
     let room = c.loop-i.room in
     let a = c.args in
-    omega (arith, length-said room (channel_line (state a.slots a.buffer.now) i) (sym (line (goal.at.overflow_sub-room c).After-line_length) ∙ c.in-Length.is))
+    omega (arith, length-said room (channel_line (state a.slots a.buffer.now) i) (sym (line (goal.at.overflow_sub-room c).After-line_length) ∙ c.in-Some.is))
 
 pub loop-i-preserved : goal.loop-i-preserved
-loop-i-preserved c = measure_on c.loop-i.invariant (omega arith) (sym (line (goal.at.loop-i-preserved c).After-line_length) ∙ c.in-Length.is)
+loop-i-preserved c = measure_on c.loop-i.invariant (omega arith) (sym (line (goal.at.loop-i-preserved c).After-line_length) ∙ c.in-Some.is)
 
 pub returns : goal.returns
 returns c = measure_end c.loop-i.invariant (omega arith)

@@ -1,12 +1,11 @@
 -- `feed::write_line` meets its contract: each part fits behind the one before it.
+use Rattle.std.specs.Prelude.{Option, Some}
 use native.Mathlib.Omega.{arith}
 use Rattle.std.proofs.Common.{ℕ, ◌≡◌, ◌+◌, ◌≤◌, List, [], ◌∷◌, ◌++◌, length}
 use Rattle.std.proofs.Math.ListN.{set}
 use Rattle.escape.specs.Escape.{kmsg_bytes}
 use Rattle.escape.specs.Answers.{Written}
 use Rattle.record.specs.declared.Seq.{Seq}
-use Rattle.channel.specs.declared.Newest.{Newest as Shown}
-use Rattle.channel.specs.declared.Newest.TheVariants.{Record as record_of}
 use Rattle.feed.specs.Printing.{field, text_end, number_end, shown_line}
 use Rattle.feed.proofs.MeasureLaws.{line-shown, line-none}
 use Rattle.feed.proofs.WriteLaws.{written_none, written_byte, first-room, second-room, written_both}
@@ -14,7 +13,7 @@ use Rattle.feed.proofs.write_line.Goals as goal
 
 -- ---- what is left of the line fits behind each part
 
-module _ (channel : ℕ) (text : List ℕ) (shown : Shown) {n : Seq} (is : shown ≡ record_of n) (at : ℕ) (out : List ℕ) (fits : at + length (shown_line channel shown text) ≤ length out) where
+module _ (channel : ℕ) (text : List ℕ) (shown : Option Seq) {n : Seq} (is : shown ≡ Some n) (at : ℕ) (out : List ℕ) (fits : at + length (shown_line channel shown text) ≤ length out) where
   room : at + length (field channel 32 ++ number_end n.0 text) ≤ length out
   room = rw (line-shown channel text shown is) at fits
 
@@ -47,32 +46,32 @@ returns-in_default c =
 pub write_field-second-requires : goal.write_field-second-requires
 write_field-second-requires c =
     let a = c.args in
-    let n = c.in-Record.number in
-    first-room a.at (length a.out.now) (field a.channel 32) (number_end n.0 a.text.now) (room a.channel a.text.now a.shown c.in-Record.is a.at a.out.now c.requires)
+    let n = c.in-Some.number in
+    first-room a.at (length a.out.now) (field a.channel 32) (number_end n.0 a.text.now) (room a.channel a.text.now a.shown c.in-Some.is a.at a.out.now c.requires)
 
 pub write_field-third-requires : goal.write_field-third-requires
 write_field-third-requires c =
     let a = c.args in
-    let n = c.in-Record.number in
+    let n = c.in-Some.number in
     let w = c.write_field-second in
-    first-room w.result (length w.new.out) (field n.0 32) (text_end a.text.now) (room_2 a.channel a.text.now a.shown c.in-Record.is a.at a.out.now c.requires w.ensures)
+    first-room w.result (length w.new.out) (field n.0 32) (text_end a.text.now) (room_2 a.channel a.text.now a.shown c.in-Some.is a.at a.out.now c.requires w.ensures)
 
 pub write_escaped-end-requires : goal.write_escaped-end-requires
 write_escaped-end-requires c =
     let a = c.args in
     let w = c.write_field-third in
     first-room w.result (length w.new.out) (kmsg_bytes a.text.now) (10 ∷ [])
-    (room-3 a.channel a.text.now a.shown c.in-Record.is a.at a.out.now c.requires c.write_field-second.ensures w.ensures)
+    (room-3 a.channel a.text.now a.shown c.in-Some.is a.at a.out.now c.requires c.write_field-second.ensures w.ensures)
 
 pub bounds-out-end : goal.bounds-out-end
 bounds-out-end c =
     let a = c.args in
     omega (
       arith,
-      room-4 a.channel a.text.now a.shown c.in-Record.is a.at a.out.now c.requires c.write_field-second.ensures c.write_field-third.ensures c.write_escaped-end.ensures,
+      room-4 a.channel a.text.now a.shown c.in-Some.is a.at a.out.now c.requires c.write_field-second.ensures c.write_field-third.ensures c.write_escaped-end.ensures,
     )
 
 pub returns : goal.returns
 returns c =
     let a = c.args in
-    written a.channel a.text.now a.shown c.in-Record.is a.at a.out.now c.requires c.write_field-second.ensures c.write_field-third.ensures c.write_escaped-end.ensures
+    written a.channel a.text.now a.shown c.in-Some.is a.at a.out.now c.requires c.write_field-second.ensures c.write_field-third.ensures c.write_escaped-end.ensures

@@ -5,20 +5,20 @@ use Rattle.feed.proofs.WriteLaws.{placed_end, placed-full}
 use Rattle.joinfeed.proofs.RunLaws.{in_front, too_long, untouched, given-fits, closed-fits, last_fits, all-written, texts-left}
 use Rattle.joinfeed.proofs.run.Goals as goal
 
-pub returns-in-End : goal.returns-in-End
-returns-in-End c =
+pub returns-in-Some : goal.returns-in-Some
+returns-in-Some c =
     let a = c.args in
-    let w = placed_end a.out.now 0 (quoted "input too long\n") c.copy.ensures c.in-End.is in
+    let w = placed_end a.out.now 0 (quoted "input too long\n") c.copy.ensures c.in-Some.is in
     let h = c.if-input-gt-INPUT.true in
     record {
       fact = rw (too_long a.texts.now a.input.now h) (in_front a.out.now (quoted "input too long\n") (omega arith) w);
       texts_after = untouched a.texts.now a.input.now h;
     }
 
-pub returns-in-NoRoom : goal.returns-in-NoRoom
-returns-in-NoRoom c =
+pub returns-in-None : goal.returns-in-None
+returns-in-None c =
     let a = c.args in
-    absurd (omega (arith, placed-full a.out.now 0 (quoted "input too long\n") c.copy.ensures c.in-NoRoom.is))
+    absurd (omega (arith, placed-full a.out.now 0 (quoted "input too long\n") c.copy.ensures c.in-None.is))
 
 pub take_all-taken-requires : goal.take_all-taken-requires
 take_all-taken-requires c = let a = c.args in given-fits a.texts.now a.input.now c.if-input-gt-INPUT.false a.out.now (omega arith)

@@ -20,5 +20,5 @@ pub returns : goal.returns
 returns c =
     let a = c.args in
     let bytes = output a.buffer.now a.input.now in
-    let w = placed_end a.out.now 0 bytes c.in-End.ensures.out_after refl in
+    let w = placed_end a.out.now 0 bytes c.in-Some.ensures.out_after refl in
     written_front a.out.now bytes (omega (arith, longest-report a.buffer.now a.input.now, c.requires)) w
