@@ -18,7 +18,7 @@ def point1():
         data = [v for v in variants if "(" in v or "{" in v]
         unit = len(variants) - len(data)
         what = f"{name} {{ {', '.join(' '.join(v.split()) for v in variants)} }}"
-        if not data:
+        if not data or re.search(rf"\bResult<.*\b{name}>", everything):  # an error enum is today's form
             if not all(d in derives for d in ("Debug", "PartialEq", "Eq")):
                 place("plain enum without derives", file, line, what)
         elif len(variants) == 2 and unit == 1:
