@@ -1,18 +1,18 @@
 -- How many of some bytes are c, and the place of the next c: of bytes one behind the other, and in loops that go along them.
-use Prim.Native.Nat.{ℕ, zero, suc, ◌+◌, ◌-◌, ◌≤◌, ◌<◌}
+use Prim.Native.Nat.{ℕ, zero, suc, ◌+◌, ◌≤◌, ◌<◌}
 use mathlib.Core.Path.{◌≡◌, refl, ap, sym, ◌∙◌}
-use mathlib.Core.Bool.{Bool, true, false, cond, not, ◌&&◌, ◌||◌}
+use mathlib.Core.Bool.{Bool, true, false, cond, not}
 use mathlib.Core.List.{List, [], ◌∷◌, ◌++◌}
 use native.Mathlib.Omega.{arith}
 use native.Mathlib.Numerals.{add-one}
-use native.Mathlib.Nat.{zero-add}
+use native.Mathlib.Nat.{zero-add, add-zero}
 use lib.Dec.{eqb}
-use lib.ListN.{length, get_or, take, drop, replicate, take-append-drop, length-append, length-drop, drop_of_length-le}
-use lib.Seq.{drop-cons, drop-drop, take_all, take-suc, length-take-le, get_or-drop}
-use borrow.Author.Tests.{eq-eqb, ne_eqb, eqb-true}
+use lib.ListN.{length, get_or, take, drop, replicate, take-append-drop, length-append}
+use lib.Seq.{take-suc, length-take-le}
+use borrow.Author.Tests.{eq-eqb, eqb-true}
 use Rattle.slices.specs.Cut.{has, before, occurrences}
-use Rattle.slices.proofs.Bools.{and_left, and_right}
-use Rattle.slices.proofs.CutLaws.{before-past, has-append}
+use Rattle.slices.proofs.EveryLaws.{every_at, every-lacks}
+use Rattle.slices.proofs.CutLaws.{before-past}
 
 -- ---- counting
 
@@ -43,57 +43,18 @@ module _ (c : ℕ) where
   pub occurrences_split : (n : ℕ) (xs : List ℕ) → occurrences c (take n xs) + occurrences c (drop n xs) ≡ occurrences c xs
   occurrences_split n xs = sym (occurrences-append (take n xs) (drop n xs)) ∙ ap (occurrences c) (take-append-drop n xs)
 
--- a loop that counts from a place up to another: what is counted and what is left
-pub record Counting (s : List ℕ) (c from to n at : ℕ) : Type 0 where
-  pub low : from ≤ at
-  pub high : at ≤ to
-  pub few : n ≤ at - from
-  pub left : n + occurrences c (take (to - at) (drop at s)) ≡ occurrences c (take (to - from) (drop from s))
-
-pub count_begin : (s : List ℕ) (c from to : ℕ) → from ≤ to → Counting s c from to 0 from
-count_begin s c from to h = record { low = omega arith; high = h; few = omega arith; left = zero-add _ }
-
-module _ {s : List ℕ} {c from to n at : ℕ} (r : Counting s c from to n at) where
-  pub count-on : at < to → at < length s → (m : ℕ) → m ≡ cond (eqb (get_or s at 0) c) (n + 1) n → Counting s c from to m (at + 1)
-  count-on h l m e =
-      let k : to - at ≡ suc (to - (at + 1)) = omega arith in
-      let d : drop at s ≡ get_or s at 0 ∷ drop (at + 1) s = rw add-one (drop-cons s at 0 l) in
-      let left : n + occurrences c (take (suc (to - (at + 1))) (get_or s at 0 ∷ drop (at + 1) s)) ≡ occurrences c (take (to - from) (drop from s)) = rw (k, d) at r.left in
-      go (eqb (get_or s at 0) c) e left
+  -- one byte more from the front
+  pub occurrences_more : (s : List ℕ) (i : ℕ) → i < length s
+      → occurrences c (take (i + 1) s) ≡ cond (eqb (get_or s i 0) c) (occurrences c (take i s) + 1) (occurrences c (take i s))
+  occurrences_more s i h =
+      rw (add-one, take-suc s i 0 h) (occurrences-append (take i s) (get_or s i 0 ∷ []) ∙ go (eqb (get_or s i 0) c))
     where
-      rest : ℕ
-      rest = occurrences c (take (to - (at + 1)) (drop (at + 1) s))
+      go : (t : Bool) → occurrences c (take i s) + cond t (suc 0) 0 ≡ cond t (occurrences c (take i s) + 1) (occurrences c (take i s))
+      go true = refl
+      go false = add-zero _
 
-      go : (t : Bool) → m ≡ cond t (n + 1) n → n + cond t (suc rest) rest ≡ occurrences c (take (to - from) (drop from s)) → Counting s c from to m (at + 1)
-      go true e left = record { low = omega (arith, r.low); high = omega arith; few = omega (arith, r.few, r.low); left = omega arith }
-      go false e left = record { low = omega (arith, r.low); high = omega arith; few = omega (arith, r.few, r.low); left = omega arith }
-
-  pub count-end : to ≤ at → n ≡ occurrences c (take (to - from) (drop from s))
-  count-end h =
-      let k : to - at ≡ 0 = omega arith in
-      let left : n + 0 ≡ occurrences c (take (to - from) (drop from s)) = rw k at r.left in
-      omega arith
-
--- by blocks
-pub record Blocks (s : List ℕ) (c n at : ℕ) : Type 0 where
-  pub bound : at ≤ length s
-  pub few : n ≤ at
-  pub left : n + occurrences c (drop at s) ≡ occurrences c s
-
-pub blocks_begin : (s : List ℕ) (c : ℕ) → Blocks s c 0 0
-blocks_begin s c = record { bound = omega arith; few = omega arith; left = zero-add _ }
-
-module _ {s : List ℕ} {c n at : ℕ} (r : Blocks s c n at) where
-  pub blocks-on : (k m : ℕ) → at + k ≤ length s → m ≡ occurrences c (take (at + k - at) (drop at s)) → Blocks s c (n + m) (at + k)
-  blocks-on k m h e =
-      let j : at + k - at ≡ k = omega arith in
-      let f : m ≡ occurrences c (take k (drop at s)) = rw j at e in
-      let g : occurrences c (drop k (drop at s)) ≡ occurrences c (drop (at + k) s) = rw drop-drop in
-      let few : occurrences c (take k (drop at s)) ≤ k = omega (arith, occurrences-most c (take k (drop at s)), length-take-le k (drop at s) (rw length-drop (omega arith))) in
-      record { bound = h; few = omega (arith, r.few); left = omega (arith, r.left, occurrences_split c k (drop at s)) }
-
-  pub blocks_end : (m : ℕ) → m ≡ occurrences c (take (length s - at) (drop at s)) → n + m ≡ occurrences c s
-  blocks_end m e = rw e (rw (take_all (length s - at) (drop at s) (rw length-drop (omega arith))) r.left)
+  pub occurrences-few : (s : List ℕ) (i : ℕ) → i ≤ length s → occurrences c (take i s) ≤ i
+  occurrences-few s i h = omega (arith, occurrences-most (take i s), length-take-le i s h)
 
 -- ---- the next c
 
@@ -118,63 +79,11 @@ module _ (c : ℕ) where
       go true e h ih = rw (eqb-true x c e)
       go false e h ih = ap (λ (l : List ℕ). x ∷ l) (rw add-one at (ih (omega arith)))
 
--- none of the bytes so far is c
-pub record Lacking (s : List ℕ) (c at i : ℕ) (lacks : Bool) : Type 0 where
-  pub bound : i ≤ 16
-  pub told : lacks ≡ true → has c (take i (drop at s)) ≡ false
-
-pub lack_begin : (s : List ℕ) (c at : ℕ) → Lacking s c at 0 true
-lack_begin s c at = record { bound = omega arith; told = λ e. refl }
-
-module _ {s : List ℕ} {c at i : ℕ} {lacks : Bool} (r : Lacking s c at i lacks) where
-  pub lack_on : i < 16 → at + 16 ≤ length s → Lacking s c at (i + 1) (lacks && not (eqb (get_or s (at + i) 0) c))
-  lack_on h l =
-      record {
-        bound = omega arith;
-        told = λ e.
-            let a : lacks ≡ true = and_left lacks (not (eqb (get_or s (at + i) 0) c)) e in
-            let b : not (eqb (get_or s (at + i) 0) c) ≡ true = and_right lacks (not (eqb (get_or s (at + i) 0) c)) e in
-            let k : i < length (drop at s) = rw length-drop (omega arith) in
-            rw (add-one, take-suc (drop at s) i 0 k, has-append, r.told a, get_or-drop at s i 0) (go (eqb (get_or s (at + i) 0) c) b);
-      }
-    where
-      go : (t : Bool) → not t ≡ true → (t || false) ≡ false
-      go true e = sym e
-      go false e = refl
-
-  pub lack_end : 16 ≤ i → lacks ≡ true → has c (take 16 (drop at s)) ≡ false
-  lack_end h e =
-      let k : i ≡ 16 = omega (arith, r.bound) in
-      rw k at (r.told e)
-
--- the place that is looked for lies as far ahead of here as it does
-pub record Seeking (s : List ℕ) (c goal at : ℕ) : Type 0 where
-  pub bound : at ≤ length s
-  pub left : at + length (before c (drop at s)) ≡ goal
-
-module _ {s : List ℕ} {c goal at : ℕ} (r : Seeking s c goal at) where
-  -- so many bytes without c are passed
-  pub seek-past : (n : ℕ) → at + n ≤ length s → has c (take n (drop at s)) ≡ false → Seeking s c goal (at + n)
-  seek-past n h e =
-      let l : length (take n (drop at s)) ≡ n = length-take-le n (drop at s) (rw length-drop (omega arith)) in
-      let b : length (before c (drop at s)) ≡ n + length (before c (drop (at + n) s)) =
-      ap (λ (xs : List ℕ). length (before c xs)) (sym (take-append-drop n (drop at s))) ∙ rw (before-past c (take n (drop at s)) (drop n (drop at s)) e) (grown l) in
-      record { bound = h; left = omega (arith, r.left) }
-    where
-      grown : length (take n (drop at s)) ≡ n → length (take n (drop at s) ++ before c (drop n (drop at s))) ≡ n + length (before c (drop (at + n) s))
-      grown l = rw drop-drop (simp length-append (omega arith))
-
-  pub seek_it : at < length s → get_or s at 0 ≡ c → at ≡ goal
-  seek_it h q =
-      let e : at + 0 ≡ goal = rw (drop-cons s at 0 h, eq-eqb (get_or s at 0) c q) at r.left in
-      omega arith
-
-  pub seek-on : at < length s → (get_or s at 0 ≡ c → ⊥) → Seeking s c goal (at + 1)
-  seek-on h q =
-      let e : at + suc (length (before c (drop (suc at) s))) ≡ goal = rw (drop-cons s at 0 h, ne_eqb (get_or s at 0) c q) at r.left in
-      record { bound = omega arith; left = rw add-one (omega arith) }
-
-  pub seek-end : length s ≤ at → at ≡ goal
-  seek-end h =
-      let e : at + 0 ≡ goal = rw (drop_of_length-le s h) at r.left in
-      omega arith
+  -- a stride without c is passed
+  pub stride_passed : (s stride rest : List ℕ) → stride ≡ take 16 s → rest ≡ drop 16 s → length rest + 16 ≡ length s
+      → ((i : ℕ) → i < 16 → not (eqb (get_or stride i 0) c) ≡ true) → length (before c s) ≡ 16 + length (before c rest)
+  stride_passed s stride rest e f l each =
+      let k : length stride ≡ 16 = rw e (length-take-le 16 s (omega arith)) in
+      let lacks : has c stride ≡ false = every-lacks c stride (every_at (λ x. not (eqb x c)) 0 stride (λ i h. each i (omega (arith, k)))) in
+      let parts : s ≡ stride ++ rest = rw (e, f) (sym (take-append-drop 16 s)) in
+      ap (λ (xs : List ℕ). length (before c xs)) parts ∙ rw (before-past c stride rest lacks) (simp length-append (omega (arith, k)))

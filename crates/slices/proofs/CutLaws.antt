@@ -1,17 +1,19 @@
 -- Cutting what was put together, and the place of the first cut.
 use Rattle.std.specs.Prelude.{Some, None}
-use Prim.Native.Nat.{ℕ, zero, suc, ◌+◌, ◌-◌, ◌≤◌, ◌<◌}
+use Prim.Native.Nat.{ℕ, suc, ◌+◌, ◌-◌, ◌≤◌}
 use mathlib.Core.Path.{◌≡◌, refl, ap, sym, ◌∙◌}
-use mathlib.Core.Bool.{Bool, true, false, ◌&&◌, ◌||◌, not, cond, true≢false, false≢true}
-use mathlib.Core.List.{List, [], ◌∷◌, ◌++◌, append_assoc, append-nil}
+use mathlib.Core.Bool.{Bool, true, false, ◌||◌, cond, false≢true}
+use mathlib.Core.List.{List, [], ◌∷◌, ◌++◌}
 use native.Mathlib.Omega.{arith}
 use lib.Dec.{eqb, ltb}
 use native.Mathlib.Numerals.{add-one}
-use native.Mathlib.Nat.{add-zero, zero-add, add_assoc}
-use lib.ListN.{length, get_or, take, drop, drop_of_length-le, length-drop}
-use lib.Seq.{drop-cons, take_all, take-take, take-nil, drop-length}
-use borrow.Author.Tests.{eq-eqb, ne_eqb, eqb-true, le-ltb, lt-ltb, ltb-true, ltb-false}
-use Rattle.slices.specs.Cut.{has, before, after, on_first, pieces, parts, join, place}
+use lib.ListN.{length, take, drop, drop_of_length-le, length-drop}
+use lib.Seq.{take_all, take-take, take-nil, drop-length}
+use borrow.Author.Tests.{eq-eqb, le-ltb, lt-ltb, ltb-true, ltb-false}
+use Rattle.std.specs.Prelude.{position, unwrap_or}
+use Rattle.std.specs.List.{position_or_len}
+use Rattle.std.proofs.lemmas.List.Recursion.{is_position_or_len}
+use Rattle.slices.specs.Cut.{has, before, after, on_first, pieces, place}
 use Rattle.slices.proofs.Bools.{or_left, or_right}
 
 ltb-suc : (a b : ℕ) → ltb (suc a) (suc b) ≡ ltb a b
@@ -92,32 +94,28 @@ module _ (c : ℕ) where
       go true h = refl
       go false h = ap (on_first x) h
 
--- no c among the first i
-pub record Passed (s : List ℕ) (c i : ℕ) : Type 0 where
-  pub bound : i ≤ length s
-  pub passed : length (before c s) ≡ i + length (before c (drop i s))
+-- the library's words for them
+position-place : (c : ℕ) (s : List ℕ) → position_or_len (λ b. eqb b c) s ≡ length (before c s)
+position-place c s = sym (is_position_or_len (λ xs. length (before c xs)) (λ b. eqb b c) refl on s)
+  where
+    on : (x : ℕ) (xs : List ℕ) → length (before c (x ∷ xs)) ≡ cond (eqb x c) 0 (1 + length (before c xs))
+    on x xs = go (eqb x c)
+      where
+        go : (t : Bool) → length (cond t [] (x ∷ before c xs)) ≡ cond t 0 (1 + length (before c xs))
+        go true = refl
+        go false = omega arith
 
-module _ {s : List ℕ} {c i : ℕ} (r : Passed s c i) where
-  pub at_end : length s ≤ i → i ≡ length (before c s)
-  at_end h =
-      let e : length (before c s) ≡ i + 0 = rw (drop_of_length-le s h) at r.passed in
-      omega arith
+pub position_is : (c : ℕ) (s : List ℕ) → position (λ b. eqb b c) s ≡ place c s
+position_is c s = rw (position-place c s, has-place c s)
 
-  pub at_it : i < length s → get_or s i 0 ≡ c → i ≡ length (before c s)
-  at_it h q =
-      let e : length (before c s) ≡ i + 0 = rw (drop-cons s i 0 h, eq-eqb (get_or s i 0) c q) at r.passed in
-      omega arith
-
-  pub past_it : i < length s → (get_or s i 0 ≡ c → ⊥) → Passed s c (i + 1)
-  past_it h q =
-      let e : length (before c s) ≡ i + suc (length (before c (drop (suc i) s))) = rw (drop-cons s i 0 h, ne_eqb (get_or s i 0) c q) at r.passed in
-      record { bound = omega arith; passed = rw add-one (omega arith) }
-
-pub found_it : (c : ℕ) (s : List ℕ) (i : ℕ) → i ≡ length (before c s) → i < length s → Some i ≡ place c s
-found_it c s i e h = rw (e, has-place c s, lt-ltb (length (before c s)) (length s) (omega arith))
-
-pub found_nowhere : (c : ℕ) (s : List ℕ) (i : ℕ) → i ≡ length (before c s) → length s ≤ i → None ≡ place c s
-found_nowhere c s i e h = rw (has-place c s, le-ltb (length (before c s)) (length s) (omega arith))
+pub place_or : (c : ℕ) (s : List ℕ) → unwrap_or (place c s) (length s) ≡ length (before c s)
+place_or c s = go (has c s) refl
+  where
+    go : (t : Bool) → has c s ≡ t → unwrap_or (cond t (Some (length (before c s))) None) (length s) ≡ length (before c s)
+    go true e = refl
+    go false e =
+        let h : length s ≤ length (before c s) = ltb-false (length (before c s)) (length s) (sym (has-place c s) ∙ e) in
+        omega (arith, before_le c s)
 
 -- ---- parts of a slice
 

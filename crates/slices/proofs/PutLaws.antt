@@ -1,13 +1,13 @@
 -- Bytes put into a buffer: one store after another, or all at once.
 use Rattle.std.specs.Prelude.{Some, None}
-use Prim.Native.Nat.{ℕ, zero, suc, ◌+◌, ◌-◌, ◌≤◌, ◌<◌}
-use mathlib.Core.Path.{◌≡◌, refl, ap, sym, ◌∙◌}
+use Prim.Native.Nat.{ℕ, suc, ◌+◌, ◌-◌, ◌≤◌, ◌<◌}
+use mathlib.Core.Path.{◌≡◌, refl, sym, ◌∙◌}
 use mathlib.Core.List.{List, [], ◌∷◌, ◌++◌, append_assoc}
 use native.Mathlib.Omega.{arith}
 use native.Mathlib.Nat.{add_assoc, add-zero}
 use native.Mathlib.Numerals.{add-one}
 use lib.ListN.{length, get_or, take, drop, set, length-append, length-set, drop_of_length-le}
-use lib.Seq.{sets, sets-eq, length-sets, length-take-le, drop-cons, drop_at, take-append-le, take-take}
+use lib.Seq.{sets, sets-eq, length-sets, length-take-le, drop-cons, drop_at, drop-drop, take-append-le, take-take}
 use mathlib.Core.Bool.{Bool, true, false}
 use lib.Dec.{leb}
 use native.Mathlib.Decide.{dec_le}
@@ -67,6 +67,11 @@ placed-room out at bytes h = rw (le-leb (at + length bytes) (length out) h)
 pub placed-none : (out : List ℕ) (at : ℕ) (bytes : List ℕ) → length out < at + length bytes → placed out at bytes ≡ left None out
 unfolding placed
 placed-none out at bytes h = rw (lt-leb (at + length bytes) (length out) h)
+
+-- as the library says it: a part of the buffer that is another list afterwards
+pub placed-part : (out : List ℕ) (at : ℕ) (bytes : List ℕ) → at + length bytes ≤ length out
+    → left (Some (at + length bytes)) (take at out ++ (bytes ++ drop (length bytes) (drop at out))) ≡ placed out at bytes
+placed-part out at bytes h = rw drop-drop (sym (placed-room out at bytes h))
 
 -- the same from the answer to the question for room
 pub no_room : (out : List ℕ) (at : ℕ) (bytes : List ℕ) {t : Bool} → t ≡ leb (at + length bytes) (length out) → t ≡ false → left None out ≡ placed out at bytes

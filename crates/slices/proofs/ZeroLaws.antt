@@ -1,42 +1,30 @@
--- The loop that looks for a zero byte: the least byte so far is zero exactly when one of those passed is.
-use Prim.Native.Nat.{ℕ, ◌+◌, ◌≤◌, ◌<◌}
-use mathlib.Core.Path.{◌≡◌, refl, ◌∙◌}
+-- The least of some bytes, looked for along them, is zero exactly when one of them is.
+use Prim.Native.Nat.{ℕ, min}
+use mathlib.Core.Path.{◌≡◌, refl, sym, ◌∙◌}
 use mathlib.Core.Bool.{Bool, true, false, ◌||◌}
-use mathlib.Core.List.{List}
+use mathlib.Core.List.{List, [], ◌∷◌}
 use native.Mathlib.Omega.{arith}
-use native.Mathlib.Numerals.{add-one}
 use lib.Dec.{eqb}
-use lib.ListN.{length, get_or, take}
-use lib.Seq.{take_all, take-suc}
-use borrow.Author.Tests.{ne_eqb, eqb-false}
+use borrow.Author.Tests.{eq-eqb, ne_eqb, eqb-true, eqb-false}
+use Rattle.std.specs.List.{fold}
 use Rattle.slices.specs.Cut.{has}
-use Rattle.slices.proofs.CutLaws.{has-append}
+use Rattle.slices.proofs.Bools.{or_assoc, or-false}
 
-pub record Looking (s : List ℕ) (at least : ℕ) : Type 0 where
-  pub bound : at ≤ length s
-  pub told : eqb least 0 ≡ has 0 (take at s)
-
-pub look_begin : (s : List ℕ) → Looking s 0 255
-look_begin s = record { bound = omega arith; told = refl }
-
-module _ {s : List ℕ} {at least : ℕ} (r : Looking s at least) where
-  pub look_on : at < length s → (next : ℕ) → eqb next 0 ≡ eqb least 0 || (eqb (get_or s at 0) 0 || false) → Looking s (at + 1) next
-  look_on h next e = record { bound = omega arith; told = rw (add-one, take-suc s at 0 h, has-append, ← r.told) e }
-
-  pub look_end : length s ≤ at → eqb least 0 ≡ has 0 s
-  look_end h = r.told ∙ rw (take_all at s h)
-
--- the lesser of two is zero exactly when one of them is
-pub lower : (b least : ℕ) → b < least → eqb b 0 ≡ eqb least 0 || (eqb b 0 || false)
-lower b least h = rw (ne_eqb least 0 (λ e. absurd (omega arith))) (go (eqb b 0))
+min_zero : (a b : ℕ) → eqb (min a b) 0 ≡ eqb a 0 || eqb b 0
+min_zero a b = go (eqb a 0) refl (eqb b 0) refl
   where
-    go : (t : Bool) → t ≡ t || false
-    go true = refl
-    go false = refl
+    go : (s : Bool) → eqb a 0 ≡ s → (t : Bool) → eqb b 0 ≡ t → eqb (min a b) 0 ≡ s || t
+    go true e t f =
+        let h : a ≡ 0 = eqb-true a 0 e in
+        eq-eqb (min a b) 0 (omega arith)
+    go false e true f =
+        let h : b ≡ 0 = eqb-true b 0 f in
+        eq-eqb (min a b) 0 (omega arith)
+    go false e false f =
+        let h : a ≡ 0 → ⊥ = eqb-false a 0 e in
+        let k : b ≡ 0 → ⊥ = eqb-false b 0 f in
+        ne_eqb (min a b) 0 (λ q. omega arith)
 
-pub not_lower : (b least : ℕ) → least ≤ b → eqb least 0 ≡ eqb least 0 || (eqb b 0 || false)
-not_lower b least h = go (eqb least 0) refl
-  where
-    go : (t : Bool) → eqb least 0 ≡ t → t ≡ t || (eqb b 0 || false)
-    go true e = refl
-    go false e = rw (ne_eqb b 0 (λ q. eqb-false least 0 e (omega arith)))
+pub least-zero : (s : List ℕ) (least : ℕ) → eqb (fold min least s) 0 ≡ eqb least 0 || has 0 s
+least-zero [] least = sym (or-false (eqb least 0))
+least-zero (x ∷ xs) least = least-zero xs (min least x) ∙ rw (min_zero least x) (or_assoc (eqb least 0) (eqb x 0) (has 0 xs))

@@ -1,5 +1,5 @@
 -- Bytes cut at a byte: fields at commas, lines at newlines, a dictionary's entries at zero bytes.
-use Rattle.std.specs.Prelude.{ℕ, suc, Bool, true, false, ◌||◌, cond, List, [], ◌∷◌, ◌++◌, eqb, length, Option, Some, None}
+use Rattle.std.specs.Prelude.{ℕ, suc, Bool, false, ◌||◌, cond, List, [], ◌∷◌, ◌++◌, eqb, length, Option, Some, None}
 
 -- c is among the bytes
 abbrev pub has : ℕ → List ℕ → Bool

@@ -1,12 +1,10 @@
--- `slices::occurrences` meets its contract: block by block, what is counted and what is left are the whole.
-use native.Mathlib.Omega.{arith}
-use Prim.Native.Nat.{◌-◌}
-use lib.ListN.{length}
-use Rattle.slices.proofs.CountLaws.{Blocks, blocks_begin, blocks-on, blocks_end}
+use Rattle.std.proofs.Common.{◌≡◌, ◌+◌}
+use Rattle.slices.specs.Cut.{occurrences}
+use Rattle.std.specs.Slice.Iter.{chunks_rest, chunks_size}
 use Rattle.slices.proofs.occurrences.Given as goal
 
-abbrev pub invariant-loop-at : goal.invariant-loop-at
-invariant-loop-at l = Blocks l.s l.c l.n l.at
-
-abbrev pub decreases-loop-at : goal.decreases-loop-at
-decreases-loop-at l = length l.s - l.at
+abbrev pub invariant-loop-block : goal.invariant-loop-block
+invariant-loop-block l = record {
+  size : chunks_size l.block-iterator ≡ 192;
+  left : l.n + occurrences l.c (chunks_rest l.block-iterator) ≡ occurrences l.c l.s;
+}
