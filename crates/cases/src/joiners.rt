@@ -43,8 +43,8 @@ fn kept(joiner: Joiner, length: usize) -> bool {
 // Document 01's number, and 0 for texts or none.
 fn number_of(answer: Answer) -> u32 {
     match answer {
-        Answer::Refused(number) => number,
-        _ => 0,
+        Ok(_) => 0,
+        Err(why) => u32::from(why),
     }
 }
 

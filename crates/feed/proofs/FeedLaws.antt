@@ -7,6 +7,7 @@ use native.Mathlib.Omega.{arith}
 use lib.Dec.{eqb}
 use lib.ListN.{length, take, drop, replicate, length-drop}
 use Rattle.message.specs.Message.{reading}
+use Rattle.refusal.specs.Numbers.{numbered}
 use Rattle.board.specs.Board.{State, channels, empty_slot, fresh, lacks_room, board_refusal, show, Delivered, deliver, answer_number, left, state}
 use Rattle.board.specs.declared.Slot.{Slot}
 use Rattle.board.specs.declared.Told.{Told}
@@ -82,7 +83,7 @@ module _ {input buffer₀ : List ℕ} {slots : List Slot} {buffer : List ℕ} {r
           omega (arith, ap length next-is, length-drop (message_length rest) rest, (message-inside rest some).within)
 
       pub feed_on : (told : Told) {m buffer' : List ℕ} {k : ℕ} → m ≡ take n rest → left told buffer' ≡ deliver (state slots buffer) m
-          → (k ≡ count_refused (answer_number told.answer)) × (k ≤ 1) → length buffer' ≡ length buffer
+          → (k ≡ count_refused (answer_number (numbered told.answer))) × (k ≤ 1) → length buffer' ≡ length buffer
           → Feeding input buffer₀ told.board.slots buffer' (refused + k) next
       feed_on told {m} {buffer'} {k} t l q b =
           let f : deliver (state slots buffer) m ≡ deliver (state slots buffer) (take (message_length rest) rest) = rw (t, e) in

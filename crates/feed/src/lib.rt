@@ -4,12 +4,15 @@
 ghost use Rattle.std.specs.Prelude.{◌≡◌, ◌+◌, ◌*◌, ◌≤◌, ◌<◌, length, take, drop};
 ghost use Rattle.slices.specs.Put.{left, placed};
 ghost use Rattle.escape.specs.Answers.{Written};
+ghost use Rattle.refusal.specs.Numbers.{numbered};
 ghost use Rattle.board.specs.Board.{channels, slot_size, answer_number, fresh, state};
 ghost use Rattle.feed.specs.Feed.{messages, message_length, fed, count_refused, feed_all, channel_lines, report, output, buffer_after};
 ghost use Rattle.feed.specs.Printing.{measured, field, shown_line, refused_line};
 ghost use Rattle.feed.specs.Kept.{restored, settled};
 
 use board::{Board, Slot};
+use record::Seq;
+use refusal::Refusal;
 
 // The channel of the first slot.
 const FIRST: usize = Board::FIRST as usize;
@@ -47,8 +50,8 @@ pub fn message_length(s: &[u8]) -> usize
 }
 
 // 1 for a refusal, 0 for none.
-fn count_refused(answer: Result<(), u32>) -> u64
-    ensures { (result ≡ count_refused (answer_number answer)) × (result ≤ 1) }
+fn count_refused(answer: Result<(), Refusal>) -> u64
+    ensures { (result ≡ count_refused (answer_number (numbered answer))) × (result ≤ 1) }
 {
     if board::answer_number(answer) == 0 {
         0

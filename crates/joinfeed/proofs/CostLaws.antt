@@ -14,10 +14,9 @@ use Rattle.escape.proofs.EscapeLaws.{kmsg_most}
 use Rattle.message.specs.Message.{Reading, reading, refusal}
 use Rattle.channel.specs.Channel.{channels, slot_size, facility_first, has_channel, channel, is_late}
 use Rattle.channel.proofs.ChannelLaws.{channel-below}
-use Rattle.joiner.specs.Joiner.{State, empty_slot, lacks_room, is_short, join_refusal, Turn, turn, opens, adds, turned, held_text, open_text, length_of, hold, after, give, taking, join, closed, is_open, lowest, give_back, close_lowest, close}
+use Rattle.joiner.specs.Joiner.{State, empty_slot, lacks_room, is_short, join_refusal, Turn, turn, opens, adds, turned, held_text, open_text, length_of, hold, after, give, taking, join, closed, is_open, lowest, give_back, close_lowest, close, refused}
 use Rattle.joiner.specs.Whole.{joining, closing, Called, joined_by, closed_by, called}
 use Rattle.joiner.specs.declared.Slot.{Slot}
-use Rattle.joiner.specs.declared.Answer.TheVariants.{Refused as refused}
 use Rattle.joinfeed.specs.Lines.{text_line, text_lines}
 use Rattle.record.specs.declared.Seq.{Seq}
 

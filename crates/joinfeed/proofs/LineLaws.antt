@@ -6,10 +6,9 @@ use native.Mathlib.Omega.{arith}
 use lib.ListN.{length, take}
 use Rattle.escape.specs.Answers.{Written}
 use Rattle.feed.proofs.WriteLaws.{written_none}
+use Rattle.joiner.specs.Joiner.{Answer, nothing, one, two, refused}
 use Rattle.joiner.specs.Whole.{shown_by}
 use Rattle.joiner.specs.declared.Text.{Text}
-use Rattle.joiner.specs.declared.Answer.{Answer}
-use Rattle.joiner.specs.declared.Answer.TheVariants.{Nothing as nothing, One as one, Two as two, Refused as refused}
 use Rattle.joinfeed.specs.Lines.{text_line, text_lines}
 
 pub lines-append : (xs ys : List (ℕ × List ℕ)) → text_lines (xs ++ ys) ≡ text_lines xs ++ text_lines ys

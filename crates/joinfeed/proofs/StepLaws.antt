@@ -1,5 +1,5 @@
 -- One call of the program, and a list of them: what is left to write stands behind what was written.
-use Rattle.std.specs.Prelude.{Option, None}
+use Rattle.std.specs.Prelude.{Option, None, Ok, Err}
 use Prim.Native.Nat.{ℕ, suc, ◌+◌, ◌-◌, ◌≤◌, ◌<◌}
 use mathlib.Core.Path.{◌≡◌, refl, ap, sym, ◌∙◌}
 use mathlib.Core.List.{List, [], ◌∷◌, ◌++◌, map}
@@ -10,13 +10,13 @@ use Rattle.escape.specs.Answers.{Written}
 use Rattle.feed.specs.Feed.{messages, message_length}
 use Rattle.feed.proofs.GroupLaws.{messages-cut, message-inside}
 use Rattle.feed.proofs.WriteLaws.{fill_written, fill_done}
-use Rattle.joiner.specs.Joiner.{State, state, empty_slot, fresh, join, close, left, left_closed}
+use Rattle.joiner.specs.declared.Texts.TheVariants.{Nothing, One, Two}
+use Rattle.joiner.specs.Joiner.{State, state, empty_slot, fresh, join, close, left, left_closed, Answer}
 use Rattle.joiner.specs.Whole.{Call, joining, closing, shown_by, Called, joined_by, closed_by, called, all_shown, after_all}
+use Rattle.refusal.specs.Numbers.{numbered}
 use Rattle.joiner.specs.declared.Told.{Told}
 use Rattle.joiner.specs.declared.Joiner.{Joiner}
 use Rattle.joiner.specs.declared.Slot.{Slot}
-use Rattle.joiner.specs.declared.Answer.{Answer}
-use Rattle.joiner.specs.declared.Answer.TheVariants.{Nothing as nothing, One as one, Two as two, Refused as refused}
 use Rattle.joinfeed.specs.Lines.{result, joinings, text_lines, count_refused, all_refused}
 use Rattle.joinfeed.specs.Steps.{Steps, Runs}
 use Rattle.joinfeed.specs.declared.Progress.{Progress}
@@ -28,25 +28,25 @@ use Rattle.record.specs.declared.Seq.{Seq}
 -- a call's answer and joiner, and the texts that it shows
 abbrev pub called_by : Told → List ℕ → List ℕ → List ℕ → Called
 called_by t buffer first second =
-    record { answer = t.answer; joiner = state t.joiner.slots t.joiner.last buffer; shown = shown_by t.answer first second }
+    record { answer = numbered t.answer; joiner = state t.joiner.slots t.joiner.last buffer; shown = shown_by (numbered t.answer) first second }
 
-pub joined_is : (j : State) (m first₀ second₀ : List ℕ) {t : Told} {buffer' first second : List ℕ} → left t buffer' first second ≡ join j m first₀ second₀
+pub joined_is : (j : State) (m first₀ second₀ : List ℕ) (t : Told) {buffer' first second : List ℕ} → left t buffer' first second ≡ join j m first₀ second₀
     → called_by t buffer' first second ≡ called j (joining m first₀ second₀)
 unfolding called
-joined_is j m first₀ second₀ e = ap joined_by e
+joined_is j m first₀ second₀ t e = ap joined_by e
 
-pub closed_is : (j : State) (given₀ : List ℕ) {t : Told} {buffer' given : List ℕ} → left_closed t buffer' given ≡ close j given₀
+pub closed_is : (j : State) (given₀ : List ℕ) (t : Told) {buffer' given : List ℕ} → left_closed t buffer' given ≡ close j given₀
     → called_by t buffer' given [] ≡ called j (closing given₀)
 unfolding called
-closed_is j given₀ e = ap closed_by e
+closed_is j given₀ t e = ap closed_by e
 
 pub step_room : (j : State) (c : Call) (at size : ℕ) (t : Told) (first second : List ℕ) {buffer' : List ℕ} → called_by t buffer' first second ≡ called j c
-    → at + length (text_lines (called j c).shown) ≤ size → at + length (text_lines (shown_by t.answer first second)) ≤ size
+    → at + length (text_lines (called j c).shown) ≤ size → at + length (text_lines (shown_by (numbered t.answer) first second)) ≤ size
 step_room j c at size t first second e h = rw (ap (λ (a : Called). text_lines a.shown) e) h
 
 pub stepped : {j : State} {c : Call} (t : Told) (first second : List ℕ) {buffer' out : List ℕ} {at n end : ℕ} {out' : List ℕ}
-    → called_by t buffer' first second ≡ called j c → Written out at (text_lines (shown_by t.answer first second)) end out'
-    → n ≡ count_refused t.answer → Steps j c out at (record { joiner = t.joiner; refused = n; end = end }) buffer' out'
+    → called_by t buffer' first second ≡ called j c → Written out at (text_lines (shown_by (numbered t.answer) first second)) end out'
+    → n ≡ count_refused (numbered t.answer) → Steps j c out at (record { joiner = t.joiner; refused = n; end = end }) buffer' out'
 stepped t first second e w k =
     record {
       lines = rw (ap (λ (a : Called). text_lines a.shown) e) at w;
@@ -55,10 +55,10 @@ stepped t first second e w k =
     }
 
 pub counts_one : (answer : Answer) → count_refused answer ≤ 1
-counts_one nothing = omega arith
-counts_one (one t) = omega arith
-counts_one (two t u) = omega arith
-counts_one (refused n) = omega arith
+counts_one (Ok Nothing) = omega arith
+counts_one (Ok (One t)) = omega arith
+counts_one (Ok (Two t u)) = omega arith
+counts_one (Err n) = omega arith
 
 pub step-one : {j : State} {c : Call} {out : List ℕ} {at : ℕ} {p : Progress} {buffer' out' : List ℕ} → Steps j c out at p buffer' out' → p.refused ≤ 1
 step-one {j} {c} s = rw s.refused (counts_one (called j c).answer)

@@ -1,16 +1,17 @@
 // The program `join_lines` (document 02, ticket 6): messages joined, and each text that is given written as a line.
 #![tactic(auto)]
 
-ghost use Rattle.std.specs.Prelude.{◌≡◌, ◌+◌, ◌≤◌, length, take, drop};
+ghost use Rattle.std.specs.Prelude.{◌≡◌, ◌+◌, ◌≤◌, length, take, drop, Ok};
 ghost use Rattle.escape.specs.Answers.{Written};
 ghost use Rattle.feed.specs.Feed.{messages};
+ghost use Rattle.refusal.specs.Numbers.{numbered};
 ghost use Rattle.joiner.specs.Joiner.{fresh, state};
 ghost use Rattle.joiner.specs.Whole.{joining, closing, shown_by, called, all_shown};
 ghost use Rattle.joinfeed.specs.Lines.{result as lent, text_line, text_lines, count_refused, joinings, closings, output, buffer_after};
 ghost use Rattle.joinfeed.specs.Steps.{Steps, Runs};
 
 use feed::Received;
-use joiner::{Answer, Joiner};
+use joiner::{Answer, Joiner, Texts};
 
 // Bytes that have room for all that is written: the lines have at most four bytes for each byte of the input, and behind them are 8
 // bytes, 20 digits and a newline.
@@ -29,13 +30,11 @@ struct Progress {
 
 // 1 for a refusal, 0 for none.
 fn count_refused(answer: Answer) -> u64
-    ensures { result ≡ count_refused answer }
+    ensures { result ≡ count_refused (numbered answer) }
 {
     match answer {
-        Answer::Nothing => 0,
-        Answer::One(t) => 0,
-        Answer::Two(t, u) => 0,
-        Answer::Refused(n) => 1,
+        Ok(_) => 0,
+        Err(_) => 1,
     }
 }
 
@@ -50,19 +49,29 @@ fn write_text(facility: u64, text: &[u8], out: &mut [u8], at: usize) -> usize
     end + 1
 }
 
-// The lines of the texts that an answer gives, a closed one before the message that closed it.
-fn write_answer(answer: Answer, first: &[u8], second: &[u8], out: &mut [u8], at: usize) -> usize
-    requires { at + length (text_lines (shown_by answer first.now second.now)) ≤ length out.old }
-    ensures { Written out.old at (text_lines (shown_by answer first.now second.now)) result out.new }
+// The lines of the texts that a call gives, a closed one before the message that closed it.
+fn write_texts(texts: Texts, first: &[u8], second: &[u8], out: &mut [u8], at: usize) -> usize
+    requires { at + length (text_lines (shown_by (Ok texts) first.now second.now)) ≤ length out.old }
+    ensures { Written out.old at (text_lines (shown_by (Ok texts) first.now second.now)) result out.new }
 {
-    match answer {
-        Answer::Nothing => at,
-        Answer::One(t) => write_text(t.facility, slices::front(first, t.size), out, at),
-        Answer::Two(t, u) => {
+    match texts {
+        Texts::Nothing => at,
+        Texts::One(t) => write_text(t.facility, slices::front(first, t.size), out, at),
+        Texts::Two(t, u) => {
             let next = write_text(t.facility, slices::front(first, t.size), out, at);
             write_text(u.facility, slices::front(second, u.size), out, next)
         }
-        Answer::Refused(n) => at,
+    }
+}
+
+// The lines of a call's answer: none, where it refuses.
+fn write_answer(answer: Answer, first: &[u8], second: &[u8], out: &mut [u8], at: usize) -> usize
+    requires { at + length (text_lines (shown_by (numbered answer) first.now second.now)) ≤ length out.old }
+    ensures { Written out.old at (text_lines (shown_by (numbered answer) first.now second.now)) result out.new }
+{
+    match answer {
+        Ok(texts) => write_texts(texts, first, second, out, at),
+        Err(_) => at,
     }
 }
 

@@ -5,7 +5,7 @@
 // number that is raised by one after each call (0: none is); how often a message is handed over. Then the messages, which are taken in turn.
 #![tactic(auto)]
 
-use joiner::{Answer, Joiner, Text};
+use joiner::{Answer, Joiner, Text, Texts};
 use number::DecimalError;
 use std::io;
 
@@ -179,10 +179,10 @@ fn with_refusal(tally: Tally, number: u32) -> Tally {
 
 fn tallied(tally: Tally, answer: Answer, first: &[u8], second: &[u8]) -> Tally {
     match answer {
-        Answer::Nothing => tally,
-        Answer::One(a) => with_text(tally, a, first),
-        Answer::Two(a, b) => with_text(with_text(tally, a, first), b, second),
-        Answer::Refused(number) => with_refusal(tally, number),
+        Ok(Texts::Nothing) => tally,
+        Ok(Texts::One(a)) => with_text(tally, a, first),
+        Ok(Texts::Two(a, b)) => with_text(with_text(tally, a, first), b, second),
+        Err(why) => with_refusal(tally, u32::from(why)),
     }
 }
 

@@ -1,5 +1,5 @@
 -- Demand 1 over every call of the product: the log's part is the history's, and the rest is a case on what each definition tests.
-use Rattle.std.specs.Prelude.{Some, None}
+use Rattle.std.specs.Prelude.{Some, None, Ok, Err}
 use Prim.Native.Nat.{ℕ, ◌≤◌}
 use mathlib.Core.Path.{◌≡◌, refl, ap, ap₂, sym, ◌∙◌}
 use mathlib.Core.Logic.{inl, inr}
@@ -31,8 +31,8 @@ use Rattle.board.specs.Board.{State, LATE, board_refusal, show, Delivered, deliv
 use Rattle.board.specs.Board.{refusals as boardRefusals}
 use Rattle.joiner.specs.Joiner.{After, join, Closed, closed, close, Given}
 use Rattle.joiner.specs.Joiner.{State as JoinerState, after as joinAfter}
-use Rattle.joiner.specs.declared.Answer.{Answer as Joined}
-use Rattle.joiner.specs.declared.Answer.TheVariants as joined_is
+use Rattle.joiner.specs.Joiner.{Answer as Joined}
+use Rattle.joiner.specs.declared.Texts.TheVariants as joined_is
 use Rattle.joiner.proofs.AnswerLaws.{answer-known, refused-unchanged, close-known, close-unchanged}
 use Rattle.feed.specs.Feed.{input_most, output, buffer_after}
 use Rattle.feed.specs.Longest.{report_most}
@@ -148,26 +148,26 @@ board-left b m = go (eqb (board_refusal b m) 0)
     go false f = refl
 
 told-known : (a : Joined) → Given a → Known (join_told a)
-told-known joined_is.Nothing g = tt
-told-known (joined_is.One t) g = tt
-told-known (joined_is.Two t u) g = tt
-told-known (joined_is.Refused n) g = g
+told-known (Ok joined_is.Nothing) g = tt
+told-known (Ok (joined_is.One t)) g = tt
+told-known (Ok (joined_is.Two t u)) g = tt
+told-known (Err n) g = g
 
 -- an answer that refuses has its number
-told-refused : (a : Joined) → Refuses (join_told a) → (n : ℕ) × (a ≡ joined_is.Refused n)
-told-refused joined_is.Nothing f = absurd f
-told-refused (joined_is.One t) f = absurd f
-told-refused (joined_is.Two t u) f = absurd f
-told-refused (joined_is.Refused n) f = (n, refl)
+told-refused : (a : Joined) → Refuses (join_told a) → (n : ℕ) × (a ≡ Err n)
+told-refused (Ok joined_is.Nothing) f = absurd f
+told-refused (Ok (joined_is.One t)) f = absurd f
+told-refused (Ok (joined_is.Two t u)) f = absurd f
+told-refused (Err n) f = (n, refl)
 
 join-left : (j : JoinerState) (m first second : List ℕ) → Refuses (join_told (join j m first second).answer)
-    → (n : ℕ) × (join j m first second ≡ joinAfter (joined_is.Refused n) j first second)
+    → (n : ℕ) × (join j m first second ≡ joinAfter (Err n) j first second)
 join-left j m first second f =
     let t = told-refused (join j m first second).answer f in
     (t.0, refused-unchanged j m first second t.0 t.1)
 
 close-left : (j : JoinerState) (result : List ℕ) → Refuses (join_told (close j result).answer)
-    → (n : ℕ) × (close j result ≡ closed (joined_is.Refused n) j result)
+    → (n : ℕ) × (close j result ≡ closed (Err n) j result)
 close-left j result f =
     let t = told-refused (close j result).answer f in
     (t.0, (close-unchanged j result t.0 t.1).1)

@@ -82,10 +82,10 @@ fn place_of(facility: u64) -> usize {
 // One that closes a text, and doesn't stand alone, opens a new one in its place.
 fn changed(was: Joiner, joiner: Joiner, answer: Answer) -> Stretch {
     match answer {
-        Answer::Nothing => lengthened(was, joiner),
-        Answer::One(text) => behind(joiner, place_of(text.facility), 0),
-        Answer::Two(_, _) => Stretch { from: 0, size: 0 },
-        Answer::Refused(_) => Stretch { from: 0, size: 0 },
+        Ok(joiner::Texts::Nothing) => lengthened(was, joiner),
+        Ok(joiner::Texts::One(text)) => behind(joiner, place_of(text.facility), 0),
+        Ok(joiner::Texts::Two(_, _)) => Stretch { from: 0, size: 0 },
+        Err(_) => Stretch { from: 0, size: 0 },
     }
 }
 
@@ -127,10 +127,10 @@ fn none_told(number: u32, first: &Result, second: &Result) -> Told {
 
 fn joined_told(answer: Answer, first: &Result, second: &Result, space: &mut Space) -> Told {
     match answer {
-        Answer::Nothing => none_told(0, first, second),
-        Answer::One(a) => one_told(a, first, second, space),
-        Answer::Two(a, b) => two_told(a, b, first, second, space),
-        Answer::Refused(number) => none_told(number, first, second),
+        Ok(joiner::Texts::Nothing) => none_told(0, first, second),
+        Ok(joiner::Texts::One(a)) => one_told(a, first, second, space),
+        Ok(joiner::Texts::Two(a, b)) => two_told(a, b, first, second, space),
+        Err(why) => none_told(u32::from(why), first, second),
     }
 }
 
@@ -173,7 +173,7 @@ fn join(
 
 // A close gives one text or none, and with room it refuses nothing.
 fn closed_told(answer: Answer, res: &Result, space: &mut Space) -> Told {
-    let Answer::One(a) = answer else {
+    let Ok(joiner::Texts::One(a)) = answer else {
         return Told::form(0).marked(lent::stayed(res, 0));
     };
     let text = lent::part(res, 0, a.size);

@@ -24,11 +24,11 @@ overflow_add-result c =
     omega (
       arith,
       text-said a.channel a.most a.text.now a.shown c.in-Some.is c.decimal_length.ensures.0 c.decimal_length-2.ensures.0
-          (sym c.kmsg_length.ensures ∙ c.in-Some.is),
+          (sym c.kmsg_length.ensures ∙ c.in-Some-kmsg_length.is),
     )
 
 pub returns : goal.returns
 returns c =
     let a = c.args in
     line-length a.channel a.most a.text.now a.shown c.in-Some.is c.decimal_length.ensures.0 c.decimal_length-2.ensures.0
-    c.if-most-numbers.false (sym c.kmsg_length.ensures ∙ c.in-Some.is)
+    c.if-most-numbers.false (sym c.kmsg_length.ensures ∙ c.in-Some-kmsg_length.is)

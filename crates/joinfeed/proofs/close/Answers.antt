@@ -14,7 +14,7 @@ closed : (c : After-front) → let a = c.args in
     ≡ called (state a.joiner.slots a.joiner.last a.texts.now) (closing result)
 closed c =
     let a = c.args in
-    rw c.front.ensures (closed_is (state a.joiner.slots a.joiner.last a.texts.now) result c.close-told.ensures.res_after)
+    rw c.front.ensures (closed_is (state a.joiner.slots a.joiner.last a.texts.now) result c.close-told.result c.close-told.ensures.res_after)
 
 pub write_answer-end-requires : goal.write_answer-end-requires
 write_answer-end-requires c =

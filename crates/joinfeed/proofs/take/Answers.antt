@@ -14,7 +14,7 @@ joined : (c : After-join-told) → let a = c.args in
     ≡ called (state a.joiner.slots a.joiner.last a.texts.now) (joining a.m.now result result)
 joined c =
     let a = c.args in
-    joined_is (state a.joiner.slots a.joiner.last a.texts.now) a.m.now result result c.join-told.ensures.second_after
+    joined_is (state a.joiner.slots a.joiner.last a.texts.now) a.m.now result result c.join-told.result c.join-told.ensures.second_after
 
 pub write_answer-end-requires : goal.write_answer-end-requires
 write_answer-end-requires c =
