@@ -10,9 +10,9 @@ pub fn header(
     out: &mut [u8],
     at: usize,
 ) -> usize {
-    if out.len() < at {
+    let Some(room) = out.get_mut(at..) else {
         return at;
-    }
+    };
     let h = Heading {
         time,
         sequence,
@@ -24,10 +24,5 @@ pub fn header(
         caller: (caller % 4294967296) as u32,
         reserved: 0,
     };
-    let none = b"";
-    let room = &mut out[at..];
-    let Some(bytes) = line::place_line(h, none, none, none, none, room) else {
-        return at;
-    };
-    at.wrapping_add(bytes)
+    line::place_line(h, b"", b"", b"", b"", room).map_or(at, |bytes| at.wrapping_add(bytes))
 }

@@ -1,9 +1,0 @@
--- `commandthrough::fill` is safe and ends.
-use Rattle.std.proofs.Common.{◌≡◌, ◌-◌, ◌≤◌, length}
-use Rattle.commandthrough.proofs.fill.Given as goal
-
-abbrev pub invariant-loop-n : goal.invariant-loop-n
-invariant-loop-n l = (l.n ≤ 2049) × (length l.buffer ≡ length l.initial.buffer)
-
-abbrev pub decreases-loop-n : goal.decreases-loop-n
-decreases-loop-n l = 2049 - l.n

@@ -1,9 +1,0 @@
--- `readthrough::read_through` is safe and ends.
-use Rattle.std.proofs.Common.{◌≡◌, ◌-◌, ◌≤◌, length}
-use Rattle.readthrough.proofs.read_through.Given as goal
-
-abbrev pub invariant-loop-n : goal.invariant-loop-n
-invariant-loop-n l = (l.n ≤ 2049) × (length l.lent ≡ length l.initial.lent)
-
-abbrev pub decreases-loop-n : goal.decreases-loop-n
-decreases-loop-n l = 2049 - l.n
