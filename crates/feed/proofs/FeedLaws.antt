@@ -1,18 +1,24 @@
 -- A feed delivered message by message: what is left to deliver, on the board as it stands, leaves what the whole feed leaves.
-use Prim.Native.Nat.{ℕ, suc, ◌+◌, ◌-◌, ◌≤◌, ◌<◌}
+use Rattle.std.specs.Prelude.{Result, Ok, Err, ⊤}
+use Rattle.std.specs.Result.{is_err}
+use mir.Val.{bool_byte}
+use Prim.Native.Nat.{ℕ, suc, ◌+◌, ◌≤◌}
 use mathlib.Core.Path.{◌≡◌, refl, ap, ◌∙◌}
-use mathlib.Core.Bool.{true, false}
+use mathlib.Core.Bool.{Bool, true, false, cond}
 use mathlib.Core.List.{List, [], ◌∷◌}
 use native.Mathlib.Omega.{arith}
 use lib.Dec.{eqb}
-use lib.ListN.{length, take, drop, replicate, length-drop}
-use Rattle.message.specs.Message.{reading}
+use lib.ListN.{length, replicate}
+use Rattle.slices.specs.Cut.{on_first}
 use Rattle.refusal.specs.Numbers.{numbered}
+use Rattle.refusal.specs.declared.Refusal.{Refusal}
+use Rattle.refusal.specs.declared.Refusal.TheVariants.{Room, Long, Unended, Header, Number, Byte, Entry, Bulk, Channel, Late}
+use Rattle.message.specs.Message.{reading}
 use Rattle.board.specs.Board.{State, channels, empty_slot, fresh, lacks_room, board_refusal, show, Delivered, deliver, answer_number, left, state}
 use Rattle.board.specs.declared.Slot.{Slot}
 use Rattle.board.specs.declared.Told.{Told}
-use Rattle.feed.specs.Feed.{messages, message_length, Fed, fed, count_refused, feed_all}
-use Rattle.feed.proofs.GroupLaws.{messages-cut, message-inside}
+use Rattle.feed.specs.Feed.{messages, Fed, fed, count_refused, feed_all}
+use Rattle.feed.proofs.GroupLaws.{splits}
 
 -- ---- a delivery
 
@@ -42,55 +48,63 @@ feed_lacking b n (m ∷ ms) e =
 
 -- ---- the loop
 
-pub record Feeding (input buffer₀ : List ℕ) (slots : List Slot) (buffer : List ℕ) (refused : ℕ) (rest : List ℕ) : Type 0 where
-  -- no more messages than bytes: the count can't wrap
+-- no more messages than bytes: their count can't wrap
+longer-most : (x : ℕ) (ms : List (List ℕ)) → length (on_first x ms) ≤ suc (length ms)
+longer-most x [] = omega arith
+longer-most x (m ∷ ms) = omega arith
+
+pub messages-most : (s : List ℕ) → length (messages s) ≤ length s
+messages-most [] = omega arith
+messages-most (x ∷ []) = omega arith
+messages-most (x ∷ y ∷ ys) = go (splits x y) (messages-most (y ∷ ys))
+  where
+    go : (t : Bool) → length (messages (y ∷ ys)) ≤ suc (length ys)
+        → length (cond t ((x ∷ []) ∷ messages (y ∷ ys)) (on_first x (messages (y ∷ ys)))) ≤ suc (suc (length ys))
+    go true h = omega arith
+    go false h = omega (arith, longer-most x (messages (y ∷ ys)))
+
+pub counts_one : (answer : ℕ) → count_refused answer ≤ 1
+counts_one answer = go (eqb answer 0)
+  where
+    go : (t : Bool) → cond t 0 1 ≤ 1
+    go true = omega arith
+    go false = omega arith
+
+-- a delivery counts as its number says: no refusal's number is 0
+counted : (answer : Result ⊤ Refusal) → bool_byte (is_err answer) ≡ count_refused (answer_number (numbered answer))
+counted (Ok x) = refl
+counted (Err Room) = refl
+counted (Err Long) = refl
+counted (Err Unended) = refl
+counted (Err Header) = refl
+counted (Err Number) = refl
+counted (Err Byte) = refl
+counted (Err Entry) = refl
+counted (Err Bulk) = refl
+counted (Err Channel) = refl
+counted (Err Late) = refl
+
+pub record Feeding (input buffer₀ : List ℕ) (slots : List Slot) (buffer : List ℕ) (refused : ℕ) (rest : List (List ℕ)) : Type 0 where
   pub count : refused + length rest ≤ length input
   pub size : length buffer ≡ length buffer₀
-  pub feeds : feed_all (state slots buffer) refused (messages rest) ≡ feed_all (fresh buffer₀) 0 (messages input)
+  pub feeds : feed_all (state slots buffer) refused rest ≡ feed_all (fresh buffer₀) 0 (messages input)
 
-pub feed_begin : {input buffer : List ℕ} {slots : List Slot} → slots ≡ replicate channels empty_slot → Feeding input buffer slots buffer 0 input
+pub feed_begin : {input buffer : List ℕ} {slots : List Slot} → slots ≡ replicate channels empty_slot → Feeding input buffer slots buffer 0 (messages input)
 unfolding fresh
-feed_begin e = record { count = omega arith; size = refl; feeds = rw e }
+feed_begin {input} e = record { count = omega (arith, messages-most input); size = refl; feeds = rw e }
 
-feed_first : (slots : List Slot) (buffer : List ℕ) (refused : ℕ) (rest : List ℕ) → 0 < length rest
-    → after refused (messages (drop (message_length rest) rest)) (deliver (state slots buffer) (take (message_length rest) rest))
-    ≡ feed_all (state slots buffer) refused (messages rest)
-unfolding feed_all
-feed_first slots buffer refused rest h = rw (messages-cut rest h)
+module _ {input buffer₀ : List ℕ} {slots : List Slot} {buffer : List ℕ} {refused : ℕ} {rest : List (List ℕ)} (r : Feeding input buffer₀ slots buffer refused rest) where
+  pub feed_end : rest ≡ [] → fed (state slots buffer) refused ≡ feed_all (fresh buffer₀) 0 (messages input)
+  unfolding feed_all
+  feed_end e = rw e at r.feeds
 
-feed_none : (slots : List Slot) (buffer : List ℕ) (refused : ℕ) (rest : List ℕ) → length rest ≤ 0
-    → fed (state slots buffer) refused ≡ feed_all (state slots buffer) refused (messages rest)
-unfolding feed_all
-feed_none slots buffer refused [] h = refl
-feed_none slots buffer refused (x ∷ xs) h = absurd (omega arith)
-
-module _ {input buffer₀ : List ℕ} {slots : List Slot} {buffer : List ℕ} {refused : ℕ} {rest : List ℕ} (r : Feeding input buffer₀ slots buffer refused rest) where
-  pub feed_end : length rest ≤ 0 → fed (state slots buffer) refused ≡ feed_all (fresh buffer₀) 0 (messages input)
-  feed_end h = feed_none slots buffer refused rest h ∙ r.feeds
-
-  module _ (some : 0 < length rest) {n : ℕ} (e : n ≡ message_length rest) where
-    pub message-some : 0 < n
-    message-some = omega (arith, (message-inside rest some).some)
-
-    module _ {next : List ℕ} (d : next ≡ drop (suc (n - 1)) rest) where
-      next-is : next ≡ drop (message_length rest) rest
-      next-is =
-          let p : suc (n - 1) ≡ message_length rest = omega (arith, message-some) in
-          d ∙ ap (λ (k : ℕ). drop k rest) p
-
-      pub next_shorter : length next + n ≡ length rest
-      next_shorter =
-          omega (arith, ap length next-is, length-drop (message_length rest) rest, (message-inside rest some).within)
-
-      pub feed_on : (told : Told) {m buffer' : List ℕ} {k : ℕ} → m ≡ take n rest → left told buffer' ≡ deliver (state slots buffer) m
-          → (k ≡ count_refused (answer_number (numbered told.answer))) × (k ≤ 1) → length buffer' ≡ length buffer
-          → Feeding input buffer₀ told.board.slots buffer' (refused + k) next
-      feed_on told {m} {buffer'} {k} t l q b =
-          let f : deliver (state slots buffer) m ≡ deliver (state slots buffer) (take (message_length rest) rest) = rw (t, e) in
-          record {
-            count = omega (arith, r.count, next_shorter, message-some, q.1);
-            size = b ∙ r.size;
-            feeds =
-                rw (next-is, q.0)
-                (ap (after refused (messages (drop (message_length rest) rest))) (l ∙ f) ∙ feed_first slots buffer refused rest some ∙ r.feeds);
-          }
+  pub feed_on : (told : Told) {m buffer' : List ℕ} {ms : List (List ℕ)} {k : ℕ} → rest ≡ m ∷ ms → left told buffer' ≡ deliver (state slots buffer) m
+      → k ≡ bool_byte (is_err told.answer) → length buffer' ≡ length buffer
+      → Feeding input buffer₀ told.board.slots buffer' (refused + k) ms
+  unfolding feed_all
+  feed_on told {m} {buffer'} {ms} {k} e l q b =
+      record {
+        count = omega (arith, r.count, ap length e, q, counted told.answer, counts_one (answer_number (numbered told.answer)));
+        size = b ∙ r.size;
+        feeds = rw (q, counted told.answer) (ap (after refused ms) l ∙ rw e at r.feeds);
+      }

@@ -36,6 +36,11 @@ pub messages-cut : (s : List ℕ) → 0 < length s → messages s ≡ take (mess
 messages-cut [] h = absurd (omega arith)
 messages-cut (x ∷ xs) h = messages-first x xs
 
+-- the same, of a cut that a call made
+pub messages-step : (s : List ℕ) {first others : List ℕ} {n : ℕ} → 0 < length s → n ≡ message_length s → first ≡ take n s → others ≡ drop n s
+    → messages s ≡ first ∷ messages others
+messages-step s h e f o = rw (f, o, e) (messages-cut s h)
+
 -- its length, by its first two bytes
 length_splits : (x y : ℕ) (ys : List ℕ) → splits x y ≡ true → message_length (x ∷ y ∷ ys) ≡ 1
 unfolding message_length
@@ -66,7 +71,7 @@ pub message-inside : (s : List ℕ) → 0 < length s → Inside s
 message-inside [] h = absurd (omega arith)
 message-inside (x ∷ xs) h = inside-cons x xs
 
-pub length_none : (s : List ℕ) → length s ≡ 0 → 0 ≡ message_length s
+length_none : (s : List ℕ) → length s ≡ 0 → 0 ≡ message_length s
 unfolding message_length
 length_none [] e = refl
 length_none (x ∷ xs) e = absurd (omega arith)
@@ -103,8 +108,13 @@ module _ {s : List ℕ} {i : ℕ} (r : Grouping s i) where
       rw (from-before, from-here h) (length_splits (get_or s (i - 1) 0) (get_or s i 0) (drop (suc i) s) e) in
       omega (arith, r.passed)
 
-  pub group_end : length s ≤ i → i ≡ message_length s
-  group_end h =
+  group_last : length s ≤ i → length s ≡ message_length s
+  group_last h =
       let l : message_length (drop (i - 1) s) ≡ 1 =
       rw (from-before, drop_of_length-le s h) (length_last (get_or s (i - 1) 0)) in
-      omega (arith, r.passed)
+      omega (arith, r.passed, r.bound)
+
+-- behind the loop, also where there is no byte
+pub group_end : (s : List ℕ) {i : ℕ} → (0 < length s → Grouping s i) → length s ≤ i → length s ≡ message_length s
+group_end [] r h = length_none [] refl
+group_end (x ∷ xs) r h = group_last (r (omega arith)) h

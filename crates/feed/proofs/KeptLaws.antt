@@ -1,6 +1,6 @@
 -- The board's buffer, kept before a feed and put back behind it, is as it was.
-use Rattle.std.specs.Prelude.{Option, Some, None}
-use Prim.Native.Nat.{ℕ, ◌+◌}
+use Rattle.std.specs.Prelude.{Option, Some, None, is_some}
+use Prim.Native.Nat.{ℕ, ◌+◌, ◌≤◌, ◌<◌}
 use mathlib.Core.Path.{◌≡◌, refl, ap, sym, ◌∙◌}
 use mathlib.Core.Bool.{Bool, true, false}
 use mathlib.Core.List.{List, append-nil}
@@ -35,11 +35,19 @@ module _ (kept buffer : List ℕ) where
 
 -- only where there is no room for the report
 module _ (kept out : List ℕ) (f : Fed) {r : Option ℕ} {out' : List ℕ} (e : left r out' ≡ placed out 0 (report f)) where
-  pub settled-room : {k : ℕ} → r ≡ Some k → f.board.buffer ≡ settled kept f (length out)
-  settled-room q = rw (le-leb (length (report f)) (length out) (omega (arith, placed-fits out 0 (report f) e q)))
+  pub settled-room : is_some r ≡ true → f.board.buffer ≡ settled kept f (length out)
+  settled-room q = rw (le-leb (length (report f)) (length out) (omega (arith, fits r e q)))
+    where
+      fits : (r : Option ℕ) → left r out' ≡ placed out 0 (report f) → is_some r ≡ true → length (report f) ≤ length out
+      fits None e q = cc
+      fits (Some k) e q = omega (arith, placed-fits out 0 (report f) e refl)
 
-  pub settled-full : r ≡ None → restored kept f.board.buffer ≡ settled kept f (length out)
-  settled-full q = rw (lt-leb (length (report f)) (length out) (omega (arith, placed-full out 0 (report f) e q)))
+  pub settled-full : is_some r ≡ false → restored kept f.board.buffer ≡ settled kept f (length out)
+  settled-full q = rw (lt-leb (length (report f)) (length out) (full r e q))
+    where
+      full : (r : Option ℕ) → left r out' ≡ placed out 0 (report f) → is_some r ≡ false → length out < length (report f)
+      full None e q = omega (arith, placed-full out 0 (report f) e refl)
+      full (Some k) e q = cc
 
 -- ---- kept
 

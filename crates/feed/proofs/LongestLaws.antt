@@ -24,6 +24,7 @@ use Rattle.board.specs.Board.{State, channels, empty_slot, fresh, slot, slot_siz
 use Rattle.board.specs.declared.Slot.{Slot}
 use Rattle.board.proofs.TakenLaws.{taken}
 use Rattle.feed.specs.Feed.{input_most, messages, Fed, count_refused, feed_all, shown_text, line_of, channel_line, channel_lines, report, output}
+use Rattle.feed.proofs.FeedLaws.{counts_one}
 use Rattle.feed.specs.Longest.{line_most, report_most, LongestReport}
 use Rattle.record.specs.declared.Seq.{Seq}
 
@@ -80,13 +81,6 @@ unfolding feed_all
 feed_small b n [] e = e
 feed_small b n (m ∷ ms) e =
     feed_small (deliver b m).board (n + count_refused (deliver b m).answer) ms (deliver_small b m e)
-
-counts_one : (answer : ℕ) → count_refused answer ≤ 1
-counts_one answer = go (eqb answer 0)
-  where
-    go : (t : Bool) → cond t 0 1 ≤ 1
-    go true = omega arith
-    go false = omega arith
 
 feed_count : (b : State) (n : ℕ) (ms : List (List ℕ)) → (feed_all b n ms).refused ≤ n + length ms
 unfolding feed_all

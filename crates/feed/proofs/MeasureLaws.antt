@@ -74,22 +74,22 @@ module _ (channel most : ℕ) (text : List ℕ) (s : Option Seq) where
       pub numbers-over : most < a + b + 3 → None ≡ measured most (shown_line channel s text)
       numbers-over h = sym (measured-over most (shown_line channel s text) (omega (arith, line_counts)))
 
-      pub text-over : kmsg_length (most - (a + b + 3)) text ≡ None → None ≡ measured most (shown_line channel s text)
-      text-over k =
-          let l : most - (a + b + 3) < length (kmsg_bytes text) =
-          over-said (most - (a + b + 3)) (kmsg_bytes text) (sym (kmsg_measured (most - (a + b + 3)) text) ∙ k) in
-          sym (measured-over most (shown_line channel s text) (omega (arith, line_counts)))
+      -- what is left of the room behind the numbers
+      module _ (room : ℕ) (fits : room + (a + b + 3) ≡ most) where
+        pub text-over : kmsg_length room text ≡ None → None ≡ measured most (shown_line channel s text)
+        text-over k =
+            let l : room < length (kmsg_bytes text) = over-said room (kmsg_bytes text) (sym (kmsg_measured room text) ∙ k) in
+            sym (measured-over most (shown_line channel s text) (omega (arith, line_counts)))
 
-      pub text-said : {l : ℕ} → kmsg_length (most - (a + b + 3)) text ≡ Some l → (l ≡ length (kmsg_bytes text)) × (length (kmsg_bytes text) ≤ most - (a + b + 3))
-      text-said k = length-said (most - (a + b + 3)) (kmsg_bytes text) (sym (kmsg_measured (most - (a + b + 3)) text) ∙ k)
+        pub text-said : {l : ℕ} → kmsg_length room text ≡ Some l → (l ≡ length (kmsg_bytes text)) × (length (kmsg_bytes text) ≤ room)
+        text-said k = length-said room (kmsg_bytes text) (sym (kmsg_measured room text) ∙ k)
 
-      pub line-length : {l : ℕ} → a + b + 3 ≤ most → kmsg_length (most - (a + b + 3)) text ≡ Some l
-          → Some (a + b + 3 + l) ≡ measured most (shown_line channel s text)
-      line-length {l} h k =
-          let r : l ≡ length (kmsg_bytes text) = (text-said k).0 in
-          let m : length (kmsg_bytes text) ≤ most - (a + b + 3) = (text-said k).1 in
-          let c : a + b + 3 + l ≡ length (shown_line channel s text) = omega (arith, line_counts) in
-          ap Some c ∙ sym (measured-fits most (shown_line channel s text) (omega arith))
+        pub line-length : {l : ℕ} → kmsg_length room text ≡ Some l → Some (a + b + 3 + l) ≡ measured most (shown_line channel s text)
+        line-length {l} k =
+            let same : l ≡ length (kmsg_bytes text) = (text-said k).0 in
+            let m : length (kmsg_bytes text) ≤ room = (text-said k).1 in
+            let c : a + b + 3 + l ≡ length (shown_line channel s text) = omega (arith, line_counts) in
+            ap Some c ∙ sym (measured-fits most (shown_line channel s text) (omega (arith, line_counts)))
 
 -- a channel's line is what its slot shows
 pub channel-line : (b : State) (i : ℕ) {text : List ℕ} → text ≡ shown_text b i

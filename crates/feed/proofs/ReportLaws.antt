@@ -1,6 +1,6 @@
 -- A report: its lines and its last line, measured whole, then written whole or not at all.
 use Rattle.std.specs.Prelude.{Some, None}
-use Prim.Native.Nat.{ℕ, ◌+◌, ◌-◌, ◌≤◌, ◌<◌}
+use Prim.Native.Nat.{ℕ, ◌+◌, ◌≤◌, ◌<◌}
 use mathlib.Core.Path.{◌≡◌, refl, sym}
 use mathlib.Core.List.{List, ◌++◌}
 use native.Mathlib.Omega.{arith}
@@ -36,11 +36,13 @@ module _ (b : State) (n : ℕ) where
     pub last-over : length out < d + 9 → left None out ≡ placed out 0 (report (fed b n))
     last-over h = sym (placed-none out 0 (report (fed b n)) (omega (arith, report_counts)))
 
-    pub lines-over : measured (length out - (d + 9)) lines ≡ None → left None out ≡ placed out 0 (report (fed b n))
-    lines-over m = sym (placed-none out 0 (report (fed b n)) (omega (arith, report_counts, over-said (length out - (d + 9)) lines m)))
+    -- what is left of the room before the last line
+    module _ (room : ℕ) (fits : room + (d + 9) ≡ length out) where
+      pub lines-over : measured room lines ≡ None → left None out ≡ placed out 0 (report (fed b n))
+      lines-over m = sym (placed-none out 0 (report (fed b n)) (omega (arith, report_counts, over-said room lines m)))
 
-    pub report-room : {l : ℕ} → d + 9 ≤ length out → measured (length out - (d + 9)) lines ≡ Some l → 0 + length (lines ++ refused_line n) ≤ length out
-    report-room h m = rw (length-append, refused_counts) (omega (arith, length-said (length out - (d + 9)) lines m))
+      pub report-room : {l : ℕ} → measured room lines ≡ Some l → 0 + length (lines ++ refused_line n) ≤ length out
+      report-room m = rw (length-append, refused_counts) (omega (arith, length-said room lines m))
 
   pub report-written : {out out₁ out₂ : List ℕ} {k k₂ : ℕ} → 0 + length (lines ++ refused_line n) ≤ length out → Written out 0 lines k out₁
       → Written out₁ k (refused_line n) k₂ out₂ → left (Some k₂) out₂ ≡ placed out 0 (report (fed b n))

@@ -1,7 +1,7 @@
 -- A report written where there is room for all of it: each part moves the place on, and what is left to write fits behind it.
-use Rattle.std.specs.Prelude.{Option, Some, None}
+use Rattle.std.specs.Prelude.{Option, Some, None, IsSome}
 use Prim.Native.Nat.{ℕ, ◌+◌, ◌-◌, ◌≤◌, ◌<◌}
-use mathlib.Core.Path.{◌≡◌, refl, ap, sym}
+use mathlib.Core.Path.{◌≡◌, refl, ap, sym, ◌∙◌}
 use mathlib.Core.Bool.{Bool, true, false, cond}
 use mathlib.Core.List.{List, [], ◌∷◌, ◌++◌}
 use native.Mathlib.Omega.{arith}
@@ -9,7 +9,7 @@ use lib.Dec.{leb}
 use lib.ListN.{length, take, set, length-append}
 use borrow.Author.Tests.{leb-true, leb-false}
 use Rattle.slices.specs.Put.{put, Left, left, placed}
-use Rattle.slices.proofs.PutLaws.{sets-put, length-put, put-append, put-none}
+use Rattle.slices.proofs.PutLaws.{placed-room, sets-put, length-put, put-append, put-none}
 use Rattle.slices.proofs.PutReads.{put-there}
 use Rattle.slices.proofs.FillLaws.{Filling, fill_begin, fill_fits-run, fill_on-run, fill_end}
 use Rattle.escape.specs.Answers.{Written}
@@ -32,6 +32,9 @@ module _ (out : List ℕ) (at : ℕ) (bytes : List ℕ) {r : Option ℕ} {out' :
           let a : r ≡ None = ap (λ (l : Left). l.answer) e in
           let z : ◌≡◌ {A = ℕ} 0 1 = cc in
           absurd (omega arith)
+
+  pub placed-some : at + length bytes ≤ length out → IsSome r
+  placed-some h = rw (ap (λ (l : Left). l.answer) (e ∙ placed-room out at bytes h)) refl
 
   pub placed-full : r ≡ None → length out < at + length bytes
   unfolding placed

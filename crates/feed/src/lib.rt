@@ -2,17 +2,16 @@
 #![tactic(auto)]
 
 ghost use Rattle.std.specs.Prelude.{◌≡◌, ◌+◌, ◌*◌, ◌≤◌, ◌<◌, length, take, drop};
+ghost use Rattle.std.specs.Iterator.{YieldsFirstBy, item_count};
 ghost use Rattle.slices.specs.Put.{left, placed};
 ghost use Rattle.escape.specs.Answers.{Written};
-ghost use Rattle.refusal.specs.Numbers.{numbered};
-ghost use Rattle.board.specs.Board.{channels, slot_size, answer_number, fresh, state};
-ghost use Rattle.feed.specs.Feed.{messages, message_length, fed, count_refused, feed_all, channel_lines, report, output, buffer_after};
+ghost use Rattle.board.specs.Board.{channels, slot_size, fresh, state};
+ghost use Rattle.feed.specs.Feed.{messages, message_length, fed, feed_all, channel_lines, report, output, buffer_after};
 ghost use Rattle.feed.specs.Printing.{measured, field, shown_line, refused_line};
 ghost use Rattle.feed.specs.Kept.{restored, settled};
 
 use board::{Board, Slot};
 use record::Seq;
-use refusal::Refusal;
 
 // The channel of the first slot.
 const FIRST: usize = Board::FIRST as usize;
@@ -36,27 +35,32 @@ impl Received {
 pub fn message_length(s: &[u8]) -> usize
     ensures { result ≡ message_length s.now }
 {
-    if s.len() == 0 {
-        return 0;
-    }
-    let mut i = 1;
-    while i < s.len() {
+    for i in 1..s.len() {
         if (s[i - 1] == b'\n') & (s[i] != b' ') {
             return i;
         }
-        i += 1;
     }
-    i
+    s.len()
 }
 
-// 1 for a refusal, 0 for none.
-fn count_refused(answer: Result<(), Refusal>) -> u64
-    ensures { (result ≡ count_refused (answer_number (numbered answer))) × (result ≤ 1) }
-{
-    if board::answer_number(answer) == 0 {
-        0
-    } else {
-        1
+// The messages of a feed, in their order.
+#[derive(Clone, Copy)]
+pub struct Messages<'a>(pub &'a [u8]);
+
+impl<'a> Iterator for Messages<'a> {
+    type Item = &'a [u8];
+
+    ghost next_gives = { YieldsFirstBy (λ m. m.now) (λ s. messages s.0.now) };
+
+    ghost remaining = { item_count (λ s. messages s.0.now) };
+
+    fn next(&mut self) -> Option<&'a [u8]> {
+        if self.0.is_empty() {
+            return None;
+        }
+        let (first, others) = self.0.split_at(message_length(self.0));
+        self.0 = others;
+        Some(first)
     }
 }
 
@@ -66,15 +70,10 @@ pub fn receive(input: &[u8], buffer: &mut [u8]) -> Received
 {
     let mut board = Board::new();
     let mut refused: u64 = 0;
-    let mut rest = input;
-    while 0 < rest.len() {
-        let n = message_length(rest);
-        let told = board::deliver(board, buffer, slices::front(rest, n));
+    for message in Messages(input) {
+        let told = board::deliver(board, buffer, message);
         board = told.board;
-        let answer = told.answer;
-        refused += count_refused(answer);
-        let next = slices::past(rest, n - 1);
-        rest = next;
+        refused += u64::from(told.answer.is_err());
     }
     Received { board, refused }
 }
@@ -84,12 +83,8 @@ fn slot_text(buffer: &[u8], i: usize, size: usize) -> &[u8]
     requires { i < channels }
     ensures { result.now ≡ take size (drop (i * slot_size) buffer.now) }
 {
-    let at = i * Board::TEXT;
-    if at < buffer.len() {
-        slices::front(&buffer[at..], size)
-    } else {
-        slices::front(buffer, 0)
-    }
+    let slot = buffer.get(i * Board::TEXT..).unwrap_or(&[]);
+    slot.get(..size).unwrap_or(slot)
 }
 
 // How many bytes a channel's line has, if no more than `most`.
@@ -100,13 +95,8 @@ fn line_length(channel: usize, shown: Option<Seq>, text: &[u8], most: usize) -> 
         return Some(0);
     };
     let numbers = number::decimal_length(channel as u64) + number::decimal_length(number.0) + 3;
-    if most < numbers {
-        return None;
-    }
-    let Some(n) = escape::kmsg_length(text, most - numbers) else {
-        return None;
-    };
-    Some(numbers + n)
+    let escaped = escape::kmsg_length(text, most.checked_sub(numbers)?)?;
+    Some(numbers + escaped)
 }
 
 // How many bytes the lines of all channels have, if no more than `most`.
@@ -114,17 +104,9 @@ fn lines_length(slots: [Slot; Board::SLOTS], buffer: &[u8], most: usize) -> Opti
     ensures { result ≡ measured most (channel_lines (state slots buffer.now) 0 channels) }
 {
     let mut room = most;
-    let mut i = 0;
-    while i < Board::SLOTS {
-        let slot = slots[i];
-        let shown = slot.shown;
-        let size = slot.size;
-        let Some(n) = line_length(FIRST + i, shown, slot_text(buffer, i, size), room)
-        else {
-            return None;
-        };
-        room -= n;
-        i += 1;
+    for (i, slot) in slots.iter().enumerate() {
+        let text = slot_text(buffer, i, slot.size);
+        room -= line_length(FIRST + i, slot.shown, text, room)?;
     }
     Some(most - room)
 }
@@ -134,9 +116,7 @@ pub fn write_field(number: u64, end: u8, out: &mut [u8], at: usize) -> usize
     requires { at + length (field number end) ≤ length out.old }
     ensures { Written out.old at (field number end) result out.new }
 {
-    let Some(k) = number::print_decimal(number, out, at) else {
-        return at;
-    };
+    let k = number::print_decimal(number, out, at).unwrap();
     out[k] = end;
     k + 1
 }
@@ -162,13 +142,9 @@ fn write_lines(slots: [Slot; Board::SLOTS], buffer: &[u8], out: &mut [u8]) -> us
     ensures { Written out.old 0 (channel_lines (state slots buffer.now) 0 channels) result out.new }
 {
     let mut at = 0;
-    let mut i = 0;
-    while i < Board::SLOTS {
-        let slot = slots[i];
-        let shown = slot.shown;
-        let size = slot.size;
-        at = write_line(FIRST + i, shown, slot_text(buffer, i, size), out, at);
-        i += 1;
+    for (i, slot) in slots.iter().enumerate() {
+        let text = slot_text(buffer, i, slot.size);
+        at = write_line(FIRST + i, slot.shown, text, out, at);
     }
     at
 }
@@ -178,9 +154,7 @@ pub fn write_refused(refused: u64, out: &mut [u8], at: usize) -> usize
     requires { at + length (refused_line refused) ≤ length out.old }
     ensures { Written out.old at (refused_line refused) result out.new }
 {
-    let Some(k) = slices::copy(b"refused ", out, at) else {
-        return at;
-    };
+    let k = slices::copy(b"refused ", out, at).unwrap();
     write_field(refused, b'\n', out, k)
 }
 
@@ -189,14 +163,8 @@ pub fn print(board: Board, buffer: &[u8], refused: u64, out: &mut [u8]) -> Optio
     ensures { left result out.new ≡ placed out.old 0 (report (fed (state board.slots buffer.now) refused)) }
 {
     let last = number::decimal_length(refused) + 9;
-    if out.len() < last {
-        return None;
-    }
-    let slots = board.slots;
-    let Some(_) = lines_length(slots, buffer, out.len() - last) else {
-        return None;
-    };
-    let at = write_lines(slots, buffer, out);
+    lines_length(board.slots, buffer, out.len().checked_sub(last)?)?;
+    let at = write_lines(board.slots, buffer, out);
     Some(write_refused(refused, out, at))
 }
 
@@ -205,7 +173,7 @@ fn restore(kept: &[u8], buffer: &mut [u8])
     ensures { buffer.new ≡ restored kept.now buffer.old }
 {
     if buffer.len() == kept.len() {
-        slices::copy(kept, buffer, 0);
+        buffer.copy_from_slice(kept);
     }
 }
 
@@ -214,14 +182,11 @@ fn print_or_restore(r: Received, kept: &[u8], buffer: &mut [u8], out: &mut [u8])
     ensures out_after { left result out.new ≡ placed out.old 0 (report (fed (state r.board.slots buffer.old) r.refused)) }
     ensures buffer_after { buffer.new ≡ settled kept.now (fed (state r.board.slots buffer.old) r.refused) (length out.old) }
 {
-    let board = r.board;
-    match print(board, buffer, r.refused, out) {
-        Some(end) => Some(end),
-        None => {
-            restore(kept, buffer);
-            None
-        }
+    let end = print(r.board, buffer, r.refused, out);
+    if end.is_none() {
+        restore(kept, buffer);
     }
+    end
 }
 
 // The receiver program: what is written for this input, put into a buffer if there is room. Without room all is as it was: for

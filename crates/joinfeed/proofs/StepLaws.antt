@@ -4,11 +4,11 @@ use Prim.Native.Nat.{ℕ, suc, ◌+◌, ◌-◌, ◌≤◌, ◌<◌}
 use mathlib.Core.Path.{◌≡◌, refl, ap, sym, ◌∙◌}
 use mathlib.Core.List.{List, [], ◌∷◌, ◌++◌, map}
 use native.Mathlib.Omega.{arith}
-use lib.ListN.{length, take, drop, replicate, length-drop}
+use lib.ListN.{length, replicate}
 use Rattle.slices.proofs.FillLaws.{Filling, fill_begin, fill_fits-run}
 use Rattle.escape.specs.Answers.{Written}
-use Rattle.feed.specs.Feed.{messages, message_length}
-use Rattle.feed.proofs.GroupLaws.{messages-cut, message-inside}
+use Rattle.feed.specs.Feed.{messages}
+use Rattle.feed.proofs.FeedLaws.{messages-most}
 use Rattle.feed.proofs.WriteLaws.{fill_written, fill_done}
 use Rattle.joiner.specs.declared.Texts.TheVariants.{Nothing, One, Two}
 use Rattle.joiner.specs.Joiner.{State, state, empty_slot, fresh, join, close, left, left_closed, Answer}
@@ -114,75 +114,53 @@ module _ {j₀ : State} {cs₀ : List Call} {out₀ : List ℕ} {at : ℕ} {j : 
 
 -- ---- the messages of an input
 
-pub record Taking (input buffer₀ out₀ : List ℕ) (k : Joiner) (buffer : List ℕ) (refused : ℕ) (out : List ℕ) (end : ℕ) (rest : List ℕ) : Type 0 where
+pub record Taking (input buffer₀ out₀ : List ℕ) (k : Joiner) (buffer : List ℕ) (refused : ℕ) (out : List ℕ) (end : ℕ) (rest : List (List ℕ)) : Type 0 where
   -- no more messages than bytes: the count can't wrap
   pub count : refused + length rest ≤ length input
   pub size : length buffer ≡ length buffer₀
-  pub runs : Running (fresh buffer₀) (joinings (messages input)) out₀ 0 (state k.slots k.last buffer) (joinings (messages rest)) out end
-  pub counts : refused + all_refused (state k.slots k.last buffer) (joinings (messages rest)) ≡ all_refused (fresh buffer₀) (joinings (messages input))
+  pub runs : Running (fresh buffer₀) (joinings (messages input)) out₀ 0 (state k.slots k.last buffer) (joinings rest) out end
+  pub counts : refused + all_refused (state k.slots k.last buffer) (joinings rest) ≡ all_refused (fresh buffer₀) (joinings (messages input))
 
 new_is : {slots : List Slot} {last : Option Seq} (buffer : List ℕ) → (slots ≡ replicate 8 empty_slot) × (last ≡ None) → state slots last buffer ≡ fresh buffer
 unfolding fresh
 new_is buffer e = rw (e.0, e.1)
 
 pub take_begin : {input buffer out : List ℕ} {k : Joiner} → (k.slots ≡ replicate 8 empty_slot) × (k.last ≡ None)
-    → length (text_lines (all_shown (fresh buffer) (joinings (messages input)))) ≤ length out → Taking input buffer out k buffer 0 out 0 input
-take_begin {buffer = buffer} e h =
-    record { count = omega arith; size = refl; runs = rw (new_is buffer e) (run_begin (omega arith)); counts = rw (new_is buffer e) (omega arith) }
+    → length (text_lines (all_shown (fresh buffer) (joinings (messages input)))) ≤ length out → Taking input buffer out k buffer 0 out 0 (messages input)
+take_begin {input = input} {buffer = buffer} e h =
+    record { count = omega (arith, messages-most input); size = refl; runs = rw (new_is buffer e) (run_begin (omega arith)); counts = rw (new_is buffer e) (omega arith) }
 
-module _ {input buffer₀ out₀ : List ℕ} {k : Joiner} {buffer : List ℕ} {refused : ℕ} {out : List ℕ} {end : ℕ} {rest : List ℕ}
+module _ {input buffer₀ out₀ : List ℕ} {k : Joiner} {buffer : List ℕ} {refused : ℕ} {out : List ℕ} {end : ℕ} {rest : List (List ℕ)}
     (r : Taking input buffer₀ out₀ k buffer refused out end rest) where
   abbrev now : State
   now = state k.slots k.last buffer
 
-  module _ (h : length rest ≤ 0) where
-    no_rest : rest ≡ []
-    no_rest = go rest h
-      where
-        go : (s : List ℕ) → length s ≤ 0 → s ≡ []
-        go [] h = refl
-        go (x ∷ xs) h = absurd (omega arith)
+  pub take-end : rest ≡ [] → Runs (fresh buffer₀) (joinings (messages input)) out₀ 0 (record { joiner = k; refused = refused; end = end }) buffer out
+  unfolding all_refused
+  take-end e =
+      let s : Running (fresh buffer₀) (joinings (messages input)) out₀ 0 now [] out end = rw e at r.runs in
+      let q : refused + 0 ≡ all_refused (fresh buffer₀) (joinings (messages input)) = rw e at r.counts in
+      record { lines = run-written s; joiner = run-joiner s; refused = omega arith }
 
-    pub take-end : Runs (fresh buffer₀) (joinings (messages input)) out₀ 0 (record { joiner = k; refused = refused; end = end }) buffer out
-    unfolding all_refused
-    take-end =
-        let s : Running (fresh buffer₀) (joinings (messages input)) out₀ 0 now [] out end = rw no_rest at r.runs in
-        let q : refused + 0 ≡ all_refused (fresh buffer₀) (joinings (messages input)) = rw no_rest at r.counts in
-        record { lines = run-written s; joiner = run-joiner s; refused = omega arith }
+  module _ {m : List ℕ} {ms : List (List ℕ)} (e : rest ≡ m ∷ ms) where
+    runs_first : Running (fresh buffer₀) (joinings (messages input)) out₀ 0 now (joining m result result ∷ joinings ms) out end
+    runs_first = rw e at r.runs
 
-  module _ (some : 0 < length rest) {n : ℕ} (e : n ≡ message_length rest) where
-    pub message-some : 0 < n
-    message-some = omega (arith, (message-inside rest some).some)
+    pub take-fits : end + length (text_lines (called now (joining m result result)).shown) ≤ length out
+    take-fits = run_fits runs_first
 
-    first-is : messages rest ≡ take n rest ∷ messages (drop n rest)
-    first-is = rw e (messages-cut rest some)
-
-    runs_first : Running (fresh buffer₀) (joinings (messages input)) out₀ 0 now (joining (take n rest) result result ∷ joinings (messages (drop n rest))) out end
-    runs_first = rw first-is at r.runs
-
-    pub take-fits : {m : List ℕ} → m ≡ take n rest → end + length (text_lines (called now (joining m result result)).shown) ≤ length out
-    take-fits t = rw t (run_fits runs_first)
-
-    module _ {next : List ℕ} (d : next ≡ drop (suc (n - 1)) rest) where
-      next-is : next ≡ drop n rest
-      next-is = let p : suc (n - 1) ≡ n = omega (arith, message-some) in d ∙ ap (λ (x : ℕ). drop x rest) p
-
-      pub next_shorter : length next + n ≡ length rest
-      next_shorter = omega (arith, ap length next-is, length-drop n rest, (message-inside rest some).within)
-
-      pub take_on : {m : List ℕ} → m ≡ take n rest → (p : Progress) {buffer' out' : List ℕ} → Steps now (joining m result result) out end p buffer' out'
-          → length buffer' ≡ length buffer
-          → Taking input buffer₀ out₀ p.joiner buffer' (refused + p.refused) out' p.end next
-      take_on {m} t p {buffer'} {out'} s b =
-          let s' : Steps now (joining (take n rest) result result) out end p buffer' out' = rw t at s in
-          let f : all_refused now (joinings (messages rest)) ≡ p.refused + all_refused (state p.joiner.slots p.joiner.last buffer') (joinings (messages (drop n rest))) =
-          rw (first-is, s'.refused, s'.joiner) (refused-first now (joining (take n rest) result result) (joinings (messages (drop n rest)))) in
-          record {
-            count = omega (arith, r.count, next_shorter, message-some, step-one s);
-            size = b ∙ r.size;
-            runs = rw next-is (run_on runs_first s');
-            counts = rw next-is (omega (arith, r.counts, f));
-          }
+    pub take_on : (p : Progress) {buffer' out' : List ℕ} → Steps now (joining m result result) out end p buffer' out'
+        → length buffer' ≡ length buffer
+        → Taking input buffer₀ out₀ p.joiner buffer' (refused + p.refused) out' p.end ms
+    take_on p {buffer'} {out'} s b =
+        let f : all_refused now (joinings rest) ≡ p.refused + all_refused (state p.joiner.slots p.joiner.last buffer') (joinings ms) =
+        rw (e, s.refused, s.joiner) (refused-first now (joining m result result) (joinings ms)) in
+        record {
+          count = omega (arith, r.count, ap length e, step-one s);
+          size = b ∙ r.size;
+          runs = run_on runs_first s;
+          counts = omega (arith, r.counts, f);
+        }
 
 -- ---- the closings
 

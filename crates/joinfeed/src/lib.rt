@@ -10,7 +10,7 @@ ghost use Rattle.joiner.specs.Whole.{joining, closing, shown_by, called, all_sho
 ghost use Rattle.joinfeed.specs.Lines.{result as lent, text_line, text_lines, count_refused, joinings, closings, output, buffer_after};
 ghost use Rattle.joinfeed.specs.Steps.{Steps, Runs};
 
-use feed::Received;
+use feed::{Messages, Received};
 use joiner::{Answer, Joiner, Texts};
 
 // Bytes that have room for all that is written: the lines have at most four bytes for each byte of the input, and behind them are 8
@@ -32,10 +32,7 @@ struct Progress {
 fn count_refused(answer: Answer) -> u64
     ensures { result ≡ count_refused (numbered answer) }
 {
-    match answer {
-        Ok(_) => 0,
-        Err(_) => 1,
-    }
+    u64::from(answer.is_err())
 }
 
 // A text's line, put at a place where there is room for it; the place behind it.
@@ -83,13 +80,10 @@ fn take(joiner: Joiner, texts: &mut [u8], m: &[u8], out: &mut [u8], at: usize) -
     let mut first = [0u8; Joiner::TEXT];
     let mut second = [0u8; Joiner::TEXT];
     let told = joiner::join(joiner, texts, m, &mut first, &mut second);
-    let answer = told.answer;
-    let joiner = told.joiner;
-    let end = write_answer(answer, &first, &second, out, at);
     Progress {
-        joiner,
-        refused: count_refused(answer),
-        end,
+        joiner: told.joiner,
+        refused: count_refused(told.answer),
+        end: write_answer(told.answer, &first, &second, out, at),
     }
 }
 
@@ -100,13 +94,10 @@ fn close(joiner: Joiner, texts: &[u8], out: &mut [u8], at: usize) -> Progress
 {
     let mut given = [0u8; Joiner::TEXT];
     let told = joiner::close(joiner, texts, &mut given);
-    let answer = told.answer;
-    let joiner = told.joiner;
-    let end = write_answer(answer, &given, slices::front(&given, 0), out, at);
     Progress {
-        joiner,
-        refused: count_refused(answer),
-        end,
+        joiner: told.joiner,
+        refused: count_refused(told.answer),
+        end: write_answer(told.answer, &given, &[], out, at),
     }
 }
 
@@ -118,15 +109,11 @@ fn take_all(input: &[u8], texts: &mut [u8], out: &mut [u8]) -> Progress
     let mut joiner = Joiner::new();
     let mut refused: u64 = 0;
     let mut end = 0;
-    let mut rest = input;
-    while 0 < rest.len() {
-        let n = feed::message_length(rest);
-        let step = take(joiner, texts, slices::front(rest, n), out, end);
+    for message in Messages(input) {
+        let step = take(joiner, texts, message, out, end);
         joiner = step.joiner;
         refused += step.refused;
         end = step.end;
-        let next = slices::past(rest, n - 1);
-        rest = next;
     }
     Progress {
         joiner,
@@ -142,12 +129,10 @@ fn close_all(joiner: Joiner, texts: &[u8], out: &mut [u8], at: usize) -> usize
 {
     let mut left = joiner;
     let mut end = at;
-    let mut i = 0;
-    while i < CLOSES {
+    for _ in 0..CLOSES {
         let step = close(left, texts, out, end);
         left = step.joiner;
         end = step.end;
-        i += 1;
     }
     end
 }
@@ -158,13 +143,9 @@ pub fn run(input: &[u8], texts: &mut [u8], out: &mut [u8; OUTPUT]) -> usize
     ensures texts_after { texts.new ≡ buffer_after texts.old input.now }
 {
     if Received::INPUT < input.len() {
-        return match slices::copy(b"input too long\n", out, 0) {
-            Some(end) => end,
-            None => 0,
-        };
+        return slices::copy(b"input too long\n", out, 0).unwrap();
     }
     let taken = take_all(input, texts, out);
-    let joiner = taken.joiner;
-    let end = close_all(joiner, texts, out, taken.end);
+    let end = close_all(taken.joiner, texts, out, taken.end);
     feed::write_refused(taken.refused, out, end)
 }

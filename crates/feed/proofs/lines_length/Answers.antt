@@ -14,20 +14,20 @@ line : (c : After-line_length) → let a = c.args in let l = c.loop-i in
 line c =
     let a = c.args in
     let l = c.loop-i in
-    c.line_length.ensures ∙ ap (measured l.room) (channel-line (state a.slots a.buffer.now) l.i c.slot_text.ensures)
+    c.line_length.ensures ∙ ap (measured l.room) (channel-line (state a.slots a.buffer.now) l.i c.slot_text-text.ensures)
 
-pub returns-in_default : goal.returns-in_default
-returns-in_default c = measure_over c.loop-i.invariant (omega arith) (sym (line (goal.at.returns-in_default c).After-line_length) ∙ c.in_default.is)
+pub returns-in_err-room : goal.returns-in_err-room
+returns-in_err-room c = c.from_residual.ensures ∙ measure_over c.loop-i.invariant (omega arith) (sym (line (goal.at.returns-in_err-room c).After-line_length) ∙ c.in_err-room.was)
 
 pub overflow_sub-room : goal.overflow_sub-room
 overflow_sub-room c =
     let i = c.loop-i.i in
     let room = c.loop-i.room in
     let a = c.args in
-    omega (arith, length-said room (channel_line (state a.slots a.buffer.now) i) (sym (line (goal.at.overflow_sub-room c).After-line_length) ∙ c.in-Some.is))
+    omega (arith, length-said room (channel_line (state a.slots a.buffer.now) i) (sym (line (goal.at.overflow_sub-room c).After-line_length) ∙ c.in_ok-room.was))
 
 pub loop-i-preserved : goal.loop-i-preserved
-loop-i-preserved c = measure_on c.loop-i.invariant (omega arith) (sym (line (goal.at.loop-i-preserved c).After-line_length) ∙ c.in-Some.is)
+loop-i-preserved c = measure_on c.loop-i.invariant (omega arith) (sym (line (goal.at.loop-i-preserved c).After-line_length) ∙ c.in_ok-room.was)
 
 pub returns : goal.returns
 returns c = measure_end c.loop-i.invariant (omega arith)

@@ -4,12 +4,12 @@ use Rattle.joinfeed.proofs.StepLaws.{run_fits, run_on, run-written, closings-fir
 use Rattle.joinfeed.proofs.close_all.Goals as goal
 
 pub close-step-requires : goal.close-step-requires
-close-step-requires c = let l = c.loop-i in run_fits (rw (closings-first l.i (omega arith)) at l.invariant.1)
+close-step-requires c = let l = c.loop in run_fits (rw (closings-first l.counter (omega arith)) at l.invariant.1)
 
-pub loop-i-preserved : goal.loop-i-preserved
-loop-i-preserved c =
-    let l = c.loop-i in
-    (omega arith, run_on (rw (closings-first l.i (omega arith)) at l.invariant.1) c.close-step.ensures)
+pub loop-preserved : goal.loop-preserved
+loop-preserved c =
+    let l = c.loop in
+    (omega arith, run_on (rw (closings-first l.counter (omega arith)) at l.invariant.1) c.close-step.ensures)
 
 pub returns : goal.returns
-returns c = let l = c.loop-i in run-written (rw (closings-none l.i (omega arith)) at l.invariant.1)
+returns c = let l = c.loop in run-written (rw (closings-none l.counter (omega arith)) at l.invariant.1)

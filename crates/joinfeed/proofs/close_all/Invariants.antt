@@ -8,9 +8,6 @@ use Rattle.joinfeed.specs.Lines.{result, closings}
 use Rattle.joinfeed.proofs.StepLaws.{Running}
 use Rattle.joinfeed.proofs.close_all.Given as goal
 
-abbrev pub invariant-loop-i : goal.invariant-loop-i
-invariant-loop-i l =
-    (l.i ≤ 8) × Running (state l.initial.left.slots l.initial.left.last l.texts) closings l.initial.out l.at (state l.left.slots l.left.last l.texts) (map closing (replicate (8 - l.i) result)) l.out l.end
-
-abbrev pub decreases-loop-i : goal.decreases-loop-i
-decreases-loop-i l = 8 - l.i
+abbrev pub invariant-loop : goal.invariant-loop
+invariant-loop l =
+    (l.counter ≤ 8) × Running (state l.initial.left.slots l.initial.left.last l.texts) closings l.initial.out l.at (state l.left.slots l.left.last l.texts) (map closing (replicate (8 - l.counter) result)) l.out l.end

@@ -1,21 +1,17 @@
 -- `joinfeed::take_all` meets its contract: what is left to join, on the joiner as it stands, gives the lines that are left.
-use native.Mathlib.Omega.{arith}
-use Rattle.joinfeed.proofs.StepLaws.{take_begin, take-fits, take_on, take-end, message-some}
+use Rattle.joinfeed.proofs.StepLaws.{take_begin, take-fits, take_on, take-end}
 use Rattle.joinfeed.proofs.take_all.Goals as goal
 
-pub loop-rest-init : goal.loop-rest-init
-loop-rest-init c = take_begin c.new-joiner.ensures c.requires
+pub loop-message-init : goal.loop-message-init
+loop-message-init c = rw c.into_iter-message-iterator.ensures.into_iter_gives (take_begin c.new-joiner.ensures c.requires)
 
 pub take-step-requires : goal.take-step-requires
-take-step-requires c = take-fits c.loop-rest.invariant c.loop-rest-test.true c.message_length-n.ensures c.front.ensures
+take-step-requires c = take-fits c.loop-message.invariant c.in-Some.ensures.steps
 
-pub overflow_sub-n : goal.overflow_sub-n
-overflow_sub-n c = omega (arith, message-some c.loop-rest.invariant c.loop-rest-test.true c.message_length-n.ensures)
-
-pub loop-rest-preserved : goal.loop-rest-preserved
-loop-rest-preserved c =
+pub loop-message-preserved : goal.loop-message-preserved
+loop-message-preserved c =
     let t = c.take-step in
-    take_on c.loop-rest.invariant c.loop-rest-test.true c.message_length-n.ensures c.past-next.ensures c.front.ensures t.result t.ensures t.auto.texts
+    take_on c.loop-message.invariant c.in-Some.ensures.steps t.result t.ensures t.auto.texts
 
 pub returns : goal.returns
-returns c = take-end c.loop-rest.invariant (omega arith)
+returns c = take-end c.loop-message.invariant c.in-None.ensures.steps.0

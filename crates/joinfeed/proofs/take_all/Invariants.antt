@@ -1,10 +1,7 @@
 -- `joinfeed::take_all` meets its contract: what is left to join, on the joiner as it stands, gives the lines that are left.
-use lib.ListN.{length}
+use Rattle.feed.specs.Feed.{messages}
 use Rattle.joinfeed.proofs.StepLaws.{Taking}
 use Rattle.joinfeed.proofs.take_all.Given as goal
 
-abbrev pub invariant-loop-rest : goal.invariant-loop-rest
-invariant-loop-rest l = Taking l.input l.initial.texts l.initial.out l.joiner l.texts l.refused l.out l.end l.rest
-
-abbrev pub decreases-loop-rest : goal.decreases-loop-rest
-decreases-loop-rest l = length l.rest
+abbrev pub invariant-loop-message : goal.invariant-loop-message
+invariant-loop-message l = Taking l.input l.initial.texts l.initial.out l.joiner l.texts l.refused l.out l.end (messages l.message-iterator.0.now)
