@@ -1,24 +1,22 @@
 -- `joinfeed::run` meets its contract: there is room for all of it, and what stands in front is what was put there.
 use native.Mathlib.Omega.{arith}
 use Rattle.slices.specs.Quoted.{quoted}
-use Rattle.feed.proofs.WriteLaws.{placed_end, placed-full}
+use Rattle.feed.proofs.WriteLaws.{placed_end, placed-some}
 use Rattle.joinfeed.proofs.RunLaws.{in_front, too_long, untouched, given-fits, closed-fits, last_fits, all-written, texts-left}
 use Rattle.joinfeed.proofs.run.Goals as goal
 
-pub returns-in-Some : goal.returns-in-Some
-returns-in-Some c =
+pub unwrap-requires : goal.unwrap-requires
+unwrap-requires c = placed-some c.args.out.now 0 (quoted "input too long\n") c.copy.ensures (omega arith)
+
+pub returns-then-input-gt-INPUT : goal.returns-then-input-gt-INPUT
+returns-then-input-gt-INPUT c =
     let a = c.args in
-    let w = placed_end a.out.now 0 (quoted "input too long\n") c.copy.ensures c.in-Some.is in
+    let w = placed_end a.out.now 0 (quoted "input too long\n") c.copy.ensures c.unwrap.ensures in
     let h = c.if-input-gt-INPUT.true in
     record {
       fact = rw (too_long a.texts.now a.input.now h) (in_front a.out.now (quoted "input too long\n") (omega arith) w);
       texts_after = untouched a.texts.now a.input.now h;
     }
-
-pub returns-in-None : goal.returns-in-None
-returns-in-None c =
-    let a = c.args in
-    absurd (omega (arith, placed-full a.out.now 0 (quoted "input too long\n") c.copy.ensures c.in-None.is))
 
 pub take_all-taken-requires : goal.take_all-taken-requires
 take_all-taken-requires c = let a = c.args in given-fits a.texts.now a.input.now c.if-input-gt-INPUT.false a.out.now (omega arith)

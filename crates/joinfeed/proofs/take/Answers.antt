@@ -16,10 +16,10 @@ joined c =
     let a = c.args in
     joined_is (state a.joiner.slots a.joiner.last a.texts.now) a.m.now result result c.join-told.result c.join-told.ensures.second_after
 
-pub write_answer-end-requires : goal.write_answer-end-requires
-write_answer-end-requires c =
+pub write_answer-requires : goal.write_answer-requires
+write_answer-requires c =
     let a = c.args in
-    step_room (state a.joiner.slots a.joiner.last a.texts.now) (joining a.m.now result result) a.at (length a.out.now) c.join-told.result c.join-told.new.first c.join-told.new.second (joined (goal.at.write_answer-end-requires c).After-join-told) c.requires
+    step_room (state a.joiner.slots a.joiner.last a.texts.now) (joining a.m.now result result) a.at (length a.out.now) c.join-told.result c.join-told.new.first c.join-told.new.second (joined (goal.at.write_answer-requires c).After-join-told) c.requires
 
 pub returns : goal.returns
-returns c = stepped c.join-told.result c.join-told.new.first c.join-told.new.second (joined (goal.at.returns c).After-join-told) c.write_answer-end.ensures c.count_refused.ensures
+returns c = stepped c.join-told.result c.join-told.new.first c.join-told.new.second (joined (goal.at.returns c).After-join-told) c.write_answer.ensures c.count_refused.ensures
