@@ -10,11 +10,9 @@ const ROOM: usize = 1101;
 // Bytes of a linear congruence.
 fn fill(bytes: &mut [u8]) {
     let mut n: u64 = 1;
-    let mut i = 0;
-    while i < bytes.len() {
+    for b in bytes {
         n = (n % 4294967296) * 1664525 + 1013904223;
-        bytes[i] = (n / 16777216 % 256) as u8;
-        i += 1;
+        *b = (n / 16777216 % 256) as u8;
     }
 }
 
@@ -32,13 +30,8 @@ fn print(rt: &impl Print, what: &[u8], bytes: &[u8]) -> io::Result<()> {
 fn lengths(rt: &impl Print, what: &[u8], bytes: &[u8], step: usize) -> io::Result<()>
     requires { 0 < step }
 {
-    let mut n = 0;
-    while n < bytes.len() {
+    for n in (0..bytes.len()).step_by(step) {
         print(rt, what, slices::front(bytes, n))?;
-        if bytes.len() - n <= step {
-            return Ok(());
-        }
-        n += step;
     }
     Ok(())
 }

@@ -25,19 +25,17 @@ fn print_around(rt: &impl Print, power: u64) -> io::Result<()>
 
 // All the powers of ten that fit 64 bits.
 fn print_powers(rt: &impl Print) -> io::Result<()> {
-    let mut power: u64 = 1;
-    while power <= 1000000000000000000 {
-        print_around(rt, power)?;
-        power = power * 10;
+    for zeros in 0..20 {
+        print_around(rt, u64::pow(10, zeros))?;
     }
-    print_around(rt, power)
+    Ok(())
 }
 
 // The largest number with one byte too few.
 fn print_short(rt: &impl Print) -> io::Result<()> {
     let mut out = [0u8; 19];
     say::text(rt, b"decimal in 19 bytes ")?;
-    let r = number::print_decimal(18446744073709551615, &mut out, 0);
+    let r = number::print_decimal(u64::MAX, &mut out, 0);
     say::placed(rt, r, &out)?;
     say::line(rt)
 }
@@ -58,7 +56,7 @@ fn read(rt: &impl Print, s: &[u8]) -> io::Result<()> {
     say::text(rt, b"read ")?;
     say::text(rt, s)?;
     say::text(rt, b": ")?;
-    match number::read_decimal(s, 18446744073709551615) {
+    match number::read_decimal(s, u64::MAX) {
         Ok(n) => say::number(rt, n)?,
         Err(DecimalError::NotPlain) => say::text(rt, b"not plain")?,
         Err(DecimalError::Above) => say::text(rt, b"above")?,
@@ -74,7 +72,7 @@ fn printed(rt: &impl Print) -> io::Result<()> {
     print(rt, 4294967296)?;
     print(rt, 9999999999999999999)?;
     print(rt, 10000000000000000000)?;
-    print(rt, 18446744073709551615)?;
+    print(rt, u64::MAX)?;
     print_powers(rt)?;
     print_short(rt)?;
     microseconds(rt, 999)?;

@@ -31,10 +31,8 @@ fn byte(rt: &impl Print, b: u8) -> io::Result<()> {
 }
 
 fn every_byte(rt: &impl Print) -> io::Result<()> {
-    let mut b: u64 = 0;
-    while b < 256 {
-        byte(rt, (b % 256) as u8)?;
-        b += 1;
+    for b in 0..=255 {
+        byte(rt, b)?;
     }
     Ok(())
 }

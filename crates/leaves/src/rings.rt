@@ -10,11 +10,9 @@ use std::io;
 fn straight(rt: &impl Print, buffer: &[u8], start: usize, used: usize) -> io::Result<()>
     requires { Within buffer.now start used }
 {
-    let mut i = 0;
-    while i < used {
+    for i in 0..used {
         let one = [ring::byte_at(buffer, Place(start), used, i)];
         say::text(rt, &one)?;
-        i += 1;
     }
     Ok(())
 }
@@ -44,19 +42,15 @@ fn put(rt: &impl Print, start: usize, used: usize) -> io::Result<()>
 fn from(rt: &impl Print, start: usize) -> io::Result<()>
     requires { start < 7 }
 {
-    let mut used = 0;
-    while used <= 7 {
+    for used in 0..=7 {
         put(rt, start, used)?;
-        used += 1;
     }
     Ok(())
 }
 
 pub fn all(rt: &impl Print) -> io::Result<()> {
-    let mut start = 0;
-    while start < 7 {
+    for start in 0..7 {
         from(rt, start)?;
-        start += 1;
     }
     Ok(())
 }

@@ -23,11 +23,9 @@ pub fn placed(rt: &impl Print, placed: Option<usize>, out: &[u8]) -> io::Result<
 
 // Bytes as numbers, a space before each.
 pub fn bytes(rt: &impl Print, s: &[u8]) -> io::Result<()> {
-    let mut i = 0;
-    while i < s.len() {
+    for b in s {
         text(rt, b" ")?;
-        number(rt, s[i] as u64)?;
-        i += 1;
+        number(rt, u64::from(*b))?;
     }
     Ok(())
 }

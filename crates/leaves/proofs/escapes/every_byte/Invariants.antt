@@ -1,9 +1,0 @@
--- `leaves::escapes::every_byte` is safe and ends.
-use Rattle.std.proofs.Common.{◌-◌, ◌≤◌}
-use Rattle.leaves.proofs.escapes.every_byte.Given as goal
-
-abbrev pub invariant-loop-b : goal.invariant-loop-b
-invariant-loop-b g l = l.b ≤ 256
-
-abbrev pub decreases-loop-b : goal.decreases-loop-b
-decreases-loop-b g l = 256 - l.b

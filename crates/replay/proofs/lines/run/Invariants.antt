@@ -1,9 +1,0 @@
--- `replay::lines::run` is safe and ends: the lines are counted down.
-use Rattle.std.proofs.Common.{◌≤◌}
-use Rattle.replay.proofs.lines.run.Given as goal
-
-abbrev pub invariant-loop-left : goal.invariant-loop-left
-invariant-loop-left g l = l.left ≤ 18446744073709551615
-
-abbrev pub decreases-loop-left : goal.decreases-loop-left
-decreases-loop-left g l = l.left

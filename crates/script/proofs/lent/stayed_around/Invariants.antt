@@ -1,9 +1,0 @@
--- `script::lent::stayed_around` is safe and ends.
-use Rattle.std.proofs.Common.{◌-◌, length}
-use Rattle.script.proofs.lent.stayed_around.Given as goal
-
-abbrev pub invariant-loop-i : goal.invariant-loop-i
-invariant-loop-i l = Unit {0}
-
-abbrev pub decreases-loop-i : goal.decreases-loop-i
-decreases-loop-i l = length l.after - l.i
