@@ -1,4 +1,6 @@
 // What a rehearsal keeps from line to line: what was made, each thing with its buffer.
+ghost use Rattle.std.specs.Prelude.{◌<◌, IfSome};
+
 use board::Board;
 use eventlog::{Answer, Log};
 use joiner::Joiner;
@@ -81,7 +83,9 @@ pub fn counted(answer: Answer) -> usize {
 }
 
 // The place of a facility's channel, if it has one.
-pub fn place_of(facility: u64) -> Option<usize> {
+pub fn place_of(facility: u64) -> Option<usize>
+    ensures { IfSome result (λ k. k < 8) }
+{
     let place = facility.checked_sub(channel::FIRST)? as usize;
     (place < channel::CHANNELS).then_some(place)
 }
