@@ -5,49 +5,34 @@ use record::Seq;
 use std::io;
 
 // A board whose channel 23 shows number 9, with a text of this length.
-fn showing(length: usize) -> Board {
-    let fresh = Board::new();
-    let mut slots = fresh.slots;
-    slots[7] = Slot {
+fn showing(size: usize) -> Board {
+    let mut board = Board::new();
+    board.slots[7] = Slot {
         shown: Some(Seq(9)),
-        size: length,
+        size,
     };
-    Board { slots }
-}
-
-// The number that a slot shows, or 0 for nothing, and its text's length are these.
-fn shows(slot: Slot, number: u64, length: usize) -> bool {
-    let shown = slot.shown;
-    let n = match shown {
-        None => 0,
-        Some(n) => n.0,
-    };
-    (n == number) & (slot.size == length)
+    board
 }
 
 // Channel 16 shows nothing still, and channel 23 what it did.
-fn kept(board: Board, length: usize) -> bool {
-    let slots = board.slots;
-    shows(slots[0], 0, 0) & shows(slots[7], 9, length)
+fn kept(board: Board, size: usize) -> bool {
+    let first = board.slots[0];
+    let last = board.slots[7];
+    first.shown.is_none() & (first.size == 0) & (last.shown == Some(Seq(9))) & (last.size == size)
 }
 
 // T14's message, for channel 16, delivered to such a board.
-fn deliver(rt: &impl Print, buffer: &mut [u8], length: usize) -> io::Result<()> {
-    say::named(rt, b"board, buffer ", buffer.len())?;
-    say::named(rt, b", text length ", length)?;
-    let t = board::deliver(showing(length), buffer, b"134,7,1,-;1-0\n");
-    let answer = t.answer;
-    let after = t.board;
-    say::answer(
-        rt,
-        board::answer_number(answer),
-        say::stayed(buffer) & kept(after, length),
-    )
+fn deliver(rt: &impl Print, buffer: &mut [u8], size: usize) -> io::Result<()> {
+    print!(rt; "board, buffer {}, text length {size}", buffer.len())?;
+    let told = board::deliver(showing(size), buffer, b"134,7,1,-;1-0\n");
+    let stayed = say::stayed(buffer) & kept(told.board, size);
+    say::answer(rt, say::number(told.answer), stayed)
 }
 
+// Arrays of other sizes are other types, so no `for` goes over them.
 pub fn all(rt: &impl Print) -> io::Result<()> {
-    deliver(rt, &mut [165u8; 7680], 960)?;
-    deliver(rt, &mut [165u8; 7679], 960)?;
-    deliver(rt, &mut [165u8; 7681], 960)?;
-    deliver(rt, &mut [165u8; 7680], 961)
+    deliver(rt, &mut [165; 7680], 960)?;
+    deliver(rt, &mut [165; 7679], 960)?;
+    deliver(rt, &mut [165; 7681], 960)?;
+    deliver(rt, &mut [165; 7680], 961)
 }

@@ -1,27 +1,22 @@
 // What a call was lent and what it did, in a line.
+use refusal::Refusal;
 use std::io;
-
-fn text(rt: &impl Print, s: &[u8]) -> io::Result<()> {
-    rt.write_all(s)
-}
-
-// A name and its number.
-pub fn named(rt: &impl Print, name: &[u8], n: usize) -> io::Result<()> {
-    text(rt, name)?;
-    rt.print(n)
-}
 
 // A buffer is lent with each byte 165, and all of them are 165 still.
 pub fn stayed(bytes: &[u8]) -> bool {
-    check::same(bytes, slices::front(&[165u8; 7681], bytes.len()))
+    bytes.iter().all(|b| *b == 165)
+}
+
+// Document 01's number for an answer, and 0 for none.
+pub fn number<T: Copy>(answer: Result<T, Refusal>) -> u32 {
+    match answer {
+        Ok(_) => 0,
+        Err(why) => u32::from(why),
+    }
 }
 
 // A call's answer, and whether all that was lent or handed in is as it was.
 pub fn answer(rt: &impl Print, answer: u32, stayed: bool) -> io::Result<()> {
-    named(rt, b": ", answer as usize)?;
-    if stayed {
-        text(rt, b", nothing changed\n")
-    } else {
-        text(rt, b", changed\n")
-    }
+    let change = if stayed { "nothing changed" } else { "changed" };
+    println!(rt; ": {answer}, {change}")
 }

@@ -22,5 +22,5 @@ fn main(rt: HostRuntime) -> io::Result<()> {
     // Some 330 KB on the stack in all, most of them for the longest output.
     let mut texts = [0u8; Joiner::BUFFER];
     let mut out = [0u8; joinfeed::OUTPUT];
-    join(&rt, slices::front(&input, n), &mut texts, &mut out)
+    join(&rt, &input[..n], &mut texts, &mut out)
 }

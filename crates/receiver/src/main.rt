@@ -14,10 +14,7 @@ fn answer(input: &[u8], buffer: &mut [u8], out: &mut [u8]) -> usize
     requires { report_most ≤ length out.old }
     ensures { take result out.new ≡ output buffer.old input.now }
 {
-    let Some(end) = feed::run(input, buffer, out) else {
-        return 0;
-    };
-    end
+    feed::run(input, buffer, out).unwrap()
 }
 
 fn main(rt: HostRuntime) -> io::Result<()> {
@@ -26,6 +23,6 @@ fn main(rt: HostRuntime) -> io::Result<()> {
     let n = streams::read_full(&mut rt.stdin(), &mut input)?;
     let mut buffer = [0u8; Board::BUFFER];
     let mut out = [0u8; Received::REPORT];
-    let end = answer(slices::front(&input, n), &mut buffer, &mut out);
+    let end = answer(&input[..n], &mut buffer, &mut out);
     rt.write_all(slices::front(&out, end))
 }
