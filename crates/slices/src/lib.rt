@@ -45,15 +45,17 @@ fn occurrences_in_block(block: &[u8], c: u8) -> u8
     n
 }
 
-// How many of the bytes are c.
+// How many of the bytes are c. Blocks by `chunks` take twice the time of blocks cut off the front.
 pub fn occurrences(s: &[u8], c: u8) -> usize
     ensures { result ≡ occurrences c s.now }
 {
     let mut n = 0;
-    for block in s.chunks(BLOCK) {
+    let mut rest = s;
+    while let Some((block, tail)) = rest.split_first_chunk::<BLOCK>() {
         n += usize::from(occurrences_in_block(block, c));
+        rest = tail;
     }
-    n
+    n + usize::from(occurrences_in_block(rest, c))
 }
 
 // A test holds of every byte of a stride. It is asked of each of them, without a branch for a byte, so that the compiler's loop takes all at a time.
