@@ -1,7 +1,7 @@
 // The board of a rehearsal, and the script's calls on it.
 use crate::state;
 use crate::state::State;
-use board::{Board, Slot};
+use board::Board;
 use script::answers::Told;
 use script::vocabulary::OnBoard;
 use script::words::{Bytes, Words};
@@ -14,15 +14,10 @@ pub fn fresh(state: &mut State, words: &Words) -> Told {
     Told::form(0)
 }
 
-// A slot shows another record than it did.
-fn is_changed(was: &Slot, slot: &Slot) -> bool {
-    was.shown.map(|s| s.0) != slot.shown.map(|s| s.0)
-}
-
 // Only a slot that shows another record now may change, and only in the bytes of its text.
 fn stayed(was: &Board, board: &Board, before: &[u8], after: &[u8]) -> bool {
     for (k, (old, new)) in was.slots.iter().zip(&board.slots).enumerate() {
-        if is_changed(old, new) {
+        if old.shown != new.shown {
             return lent::stayed_around(before, after, k * Board::TEXT, new.size);
         }
     }

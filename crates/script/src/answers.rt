@@ -3,9 +3,9 @@ use crate::words::Words;
 use crate::{hex, lent};
 use std::io;
 
-// What a call tells: which form of its answer is meant, a place in its row's list of forms; the answer that may be negative; its numbers, in the form's
-// order; where its bytes end in the space, which are those of the lent buffer that it counts, and where more bytes end behind them; and whether every
-// other byte stayed that should have.
+// What a call tells: which form of its answer is meant, a place in its row's list of forms (an enum of the forms would say the vocabulary a second time);
+// the answer that may be negative; its numbers, in the form's order; where its bytes end in the space, which are those of the lent buffer that it counts,
+// and where more bytes end behind them; and whether every other byte stayed that should have.
 #[derive(Clone, Copy)]
 pub struct Told {
     pub meant: usize,

@@ -36,7 +36,7 @@ fn digit(n: u8) -> u8
     if n < 10 { b'0' + n } else { b'a' + (n - 10) }
 }
 
-// At most 500 bytes as hex on standard output.
+// At most 500 bytes as hex on standard output, in one write: printed each by itself, they would be as many.
 fn print_some(rt: &impl Print, bytes: &[u8]) -> io::Result<()> {
     let mut out = [0u8; 1000];
     for (pair, b) in out.chunks_exact_mut(2).zip(bytes) {

@@ -1,4 +1,6 @@
 // Lines of standard input, taken from chunks of it.
+ghost use Rattle.std.specs.Prelude.{◌≤◌, IfOk, IfSome, length};
+
 use crate::lent;
 use std::io;
 use std::io::{Input, Read};
@@ -6,7 +8,8 @@ use std::io::{Input, Read};
 // The longest line of a script.
 const LINE_MOST: usize = 40000;
 
-// Standard input, a chunk of it at a time.
+// Standard input, a chunk of it at a time: a program has no memory but its stack, so the chunk and the line have a size, and the bytes in use lie between
+// places of them.
 #[derive(Drop)]
 pub struct Lines {
     chunk: [u8; 65536],
@@ -61,7 +64,9 @@ impl Lines {
     }
 
     // The next line, if there is one. A line that is too long has no bytes, and is no call.
-    pub fn next_line(&mut self, rt: &impl Input) -> io::Result<Option<&[u8]>> {
+    pub fn next_line(&mut self, rt: &impl Input) -> io::Result<Option<&[u8]>>
+        ensures { IfOk result (λ next. IfSome next (λ line. length line.now ≤ 40000)) }
+    {
         if self.ended {
             return Ok(None);
         }
