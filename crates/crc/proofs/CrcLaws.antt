@@ -5,8 +5,8 @@ use native.Mathlib.Nat.{mod-lt, zero-add, suc-add}
 use native.Mathlib.Omega.{arith}
 use mathlib.Core.Path.{◌≡◌, refl, sym, ap, ap₂, ◌∙◌}
 use mathlib.Core.Bool.{true}
-use mathlib.Core.List.{List, [], ◌∷◌}
-use lib.ListN.{length, get_or, drop, drop_of_length-le}
+use mathlib.Core.List.{List, [], ◌∷◌, ◌++◌}
+use lib.ListN.{length, get_or, take, drop, take-append-drop, drop_of_length-le}
 use lib.Seq.{drop-cons}
 use lib.Pow.{split, pow_pos}
 use lib.Bits.{bit_xor, differ, xor_zero_r, xor_comm, xor_self, xor_lt, xor_shr, xor_shifted, shifted_half, shifted_even}
@@ -128,6 +128,15 @@ on-four c b₀ b₁ b₂ b₃ h₀ h₁ h₂ =
     ∙ onto 24 c b₀ ((b₃ * 256 + b₂) * 256 + b₁) h₀)
 
 -- ---- through a list
+
+parts_on : (xs ys : List ℕ) (c : ℕ) → on_bytes (on_bytes c xs) ys ≡ on_bytes c (xs ++ ys)
+unfolding on_bytes
+parts_on [] ys c = refl
+parts_on (x ∷ xs) ys c = parts_on xs ys (on_byte c x)
+
+-- a part in front, and the rest behind it
+pub in_parts : (n c : ℕ) (bs : List ℕ) → on_bytes (on_bytes c (take n bs)) (drop n bs) ≡ on_bytes c bs
+in_parts n c bs = parts_on (take n bs) (drop n bs) c ∙ ap (on_bytes c) (take-append-drop n bs)
 
 pub passed : (c d : ℕ) (bs : List ℕ) (i j : ℕ) → j ≡ i + 1 → i < length bs → d ≡ on_byte c (get_or bs i 0) → on_bytes d (drop j bs) ≡ on_bytes c (drop i bs)
 unfolding on_bytes

@@ -4,8 +4,8 @@ use Rattle.crc.proofs.high_half.Goals as goal
 
 pub returns : goal.returns
 returns c =
-    pair-four 0 c.args.x c.nibble_16.result c.nibble_12.result c.nibble_8.result c.nibble_4.result c.requires
-    c.nibble_16.ensures
-    c.nibble_12.ensures
-    c.nibble_8.ensures
-    c.nibble_4.ensures
+    pair-four 0 c.args.x c.nibble.result c.nibble-2.result c.nibble-3.result c.nibble-4.result c.requires
+    c.nibble.ensures
+    c.nibble-2.ensures
+    c.nibble-3.ensures
+    c.nibble-4.ensures

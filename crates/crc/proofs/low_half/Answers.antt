@@ -4,8 +4,8 @@ use Rattle.crc.proofs.low_half.Goals as goal
 
 pub returns : goal.returns
 returns c =
-    pair-four 16 c.args.x c.nibble_32.result c.nibble_28.result c.nibble_24.result c.nibble_20.result c.requires
-    c.nibble_32.ensures
-    c.nibble_28.ensures
-    c.nibble_24.ensures
-    c.nibble_20.ensures
+    pair-four 16 c.args.x c.nibble.result c.nibble-2.result c.nibble-3.result c.nibble-4.result c.requires
+    c.nibble.ensures
+    c.nibble-2.ensures
+    c.nibble-3.ensures
+    c.nibble-4.ensures

@@ -5,14 +5,12 @@ use native.Mathlib.Omega.{arith}
 use Rattle.crc.proofs.CrcLaws.{passed, all_passed}
 use Rattle.crc.proofs.on_rest.Goals as goal
 
-pub loop-i-preserved : goal.loop-i-preserved
-loop-i-preserved c =
-    let l = c.loop-i in
-    let bytes = c.args.bytes.now in
-    passed l.c c.on_byte-c.result bytes l.i (l.i + 1) refl (omega arith) c.on_byte-c.ensures ∙ l.invariant
+pub loop-b-preserved : goal.loop-b-preserved
+loop-b-preserved c =
+    let l = c.loop-b in
+    passed l.c c.on_byte-c.result c.args.rest.now l.b-index (l.b-index + 1) refl (omega arith) c.on_byte-c.ensures ∙ l.invariant
 
 pub returns : goal.returns
 returns c =
-    let l = c.loop-i in
-    let bytes = c.args.bytes.now in
-    sym (all_passed l.c bytes l.i (omega arith)) ∙ l.invariant
+    let l = c.loop-b in
+    sym (all_passed l.c c.args.rest.now l.b-index (omega arith)) ∙ l.invariant
