@@ -1,14 +1,15 @@
 -- Reading decimal byte by byte: what is left, after the number that was read, says what the whole says.
 use Rattle.std.specs.Prelude.{Result, Ok, Err}
 use Prim.Native.Nat.{ℕ, ◌+◌, ◌*◌, ◌-◌, ◌^◌, ◌≤◌, ◌<◌}
-use mathlib.Core.Path.{◌≡◌, refl, sym, ◌∙◌}
+use mathlib.Core.Path.{◌≡◌, refl, sym, ap, ◌∙◌}
 use mathlib.Core.Bool.{Bool, true, false, not, cond}
 use mathlib.Core.List.{List, [], ◌∷◌}
 use native.Mathlib.Omega.{arith}
 use native.Mathlib.Nat.{pow-succ', pow-le-pow_right}
 use native.Mathlib.Numerals.{add-one}
 use lib.Dec.{leb}
-use lib.ListN.{length, get_or, drop, drop_of_length-le}
+use lib.ListN.{length, get_or, take, drop, length-drop, drop_of_length-le}
+use lib.Seq.{take_all}
 use borrow.Author.Tests.{le-leb, lt-leb, eq-eqb, ne_eqb, not-true, not-false}
 use Rattle.slices.proofs.Bools.{and-true, and-false}
 use Rattle.slices.proofs.PutLaws.{drop-step}
@@ -24,6 +25,10 @@ answer_above bs = cond (all_digits bs) (Err Above) (Err NotPlain)
 -- the answer after n was read, by the bytes that are left
 abbrev pub answer_after : ℕ → ℕ → List ℕ → Result ℕ DecimalError
 answer_after most n bs = cond (all_digits bs) (cond (leb (value_from n bs) most) (Ok (value_from n bs)) (Err Above)) (Err NotPlain)
+
+-- the bytes behind a place, as a part of the slice
+pub above-part : (s : List ℕ) (i : ℕ) → answer_above (take (length s - (i + 1)) (drop (i + 1) s)) ≡ answer_above (drop (i + 1) s)
+above-part s i = ap answer_above (take_all (length s - (i + 1)) (drop (i + 1) s) (rw length-drop (omega arith)))
 
 value_grows : (bs : List ℕ) (n : ℕ) → n ≤ value_from n bs
 value_grows [] n = omega arith

@@ -24,15 +24,13 @@ fn is_digit(b: u8) -> bool
 }
 
 // What a value above the bound answers: any later byte that is no digit makes it no decimal at all.
-fn above(s: &[u8], from: usize) -> Result<u64, DecimalError>
-    ensures { result ≡ cond (all_digits (drop from s.now)) (Err Above) (Err NotPlain) }
+fn above(rest: &[u8]) -> Result<u64, DecimalError>
+    ensures { result ≡ cond (all_digits rest.now) (Err Above) (Err NotPlain) }
 {
-    let mut i = from;
-    while i < s.len() {
-        if !is_digit(s[i]) {
+    for &b in rest {
+        if !is_digit(b) {
             return Err(DecimalError::NotPlain);
         }
-        i += 1;
     }
     Err(DecimalError::Above)
 }
@@ -43,14 +41,11 @@ fn read_short(s: &[u8], most: u64) -> Result<u64, DecimalError>
     ensures { result ≡ decimal_up_to most s.now }
 {
     let mut n: u64 = 0;
-    let mut i = 0;
-    while i < s.len() {
-        let b = s[i];
+    for &b in s {
         if !is_digit(b) {
             return Err(DecimalError::NotPlain);
         }
-        n = n * 10 + (b - b'0') as u64;
-        i += 1;
+        n = n * 10 + u64::from(b - b'0');
     }
     if n <= most {
         Ok(n)
@@ -66,21 +61,18 @@ fn read_long(s: &[u8], most: u64) -> Result<u64, DecimalError>
 {
     let tenth = most / 10;
     let mut n: u64 = 0;
-    let mut i = 0;
-    while i < s.len() {
-        let b = s[i];
+    for (i, &b) in s.iter().enumerate() {
         if !is_digit(b) {
             return Err(DecimalError::NotPlain);
         }
-        let d = (b - b'0') as u64;
+        let d = u64::from(b - b'0');
         if tenth < n {
-            return above(s, i + 1);
+            return above(&s[i + 1..]);
         }
         if most - n * 10 < d {
-            return above(s, i + 1);
+            return above(&s[i + 1..]);
         }
         n = n * 10 + d;
-        i += 1;
     }
     Ok(n)
 }
