@@ -1,8 +1,8 @@
 // One command of syslog(2) asked of a full log over and over: what was answered in all, command 2's position after the last one, and a checksum of the lent
 // buffer. bench/ has a plain program that does the same, and times both.
 //
-// Standard input is six numbers parted by single spaces and ended by a newline: the bytes of text in each record, after how many of them each is a newline (0: none
-// is), the log's capacity; the command's type, its len, and how often it is asked.
+// Standard input is six numbers parted by single spaces and ended by a newline: the bytes of text in each record, after how many of them each is a newline (0:
+// none is), the log's capacity; the command's type, its len, and how often it is asked.
 #![tactic(auto)]
 
 ghost use Rattle.std.specs.Prelude.{◌≤◌};
@@ -92,7 +92,8 @@ fn understand(line: &[u8]) -> Option<Wanted> {
 
 // ---- the commands
 
-// Each time of the same log, so that each does the same work. A command that is refused counts nothing.
+// Each time of the same log, so that each does the same work. A command that is refused counts nothing. The log's numbers and its buffer go apart, since every
+// call of the log takes them so.
 fn ask_often(log: Log, buffer: &[u8], asked: Asked, lent: &mut [u8], times: u64) -> Told {
     let mut told = Told { answered: 0, log };
     for _ in 0..times {
@@ -123,6 +124,8 @@ fn run(rt: &impl Print, wanted: Wanted) -> io::Result<()> {
     ask(rt, log, buffer, wanted.asked, wanted.times)
 }
 
+// Fixed memory: a part of the buffer is what was read. Other programs' mains look alike: one for all would take what is asked, run and refused as closures, and
+// be no plainer.
 fn main(rt: HostRuntime) -> io::Result<()> {
     let mut input = [0u8; 64];
     let n = streams::read_full(&mut rt.stdin(), &mut input)?;

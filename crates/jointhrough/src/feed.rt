@@ -1,7 +1,7 @@
 // Messages that are handed over in turn.
 ghost use Rattle.std.specs.Prelude.{◌≤◌, length};
 
-// Messages of one size, and the place of the next one.
+// Messages of one size, and the place of the next one: a slice of it could not be kept, since the messages are written to in place.
 #[derive(Drop)]
 pub struct Feed<'a> {
     messages: &'a mut [u8],

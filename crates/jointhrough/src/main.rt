@@ -46,7 +46,7 @@ fn understand(input: &[u8]) -> Option<Asked>
     })
 }
 
-// One message after the other handed over, and what each gave counted.
+// One message after the other handed over, and what each gave counted. The joiner is lent its three buffers apart, so they stand apart here.
 fn join_often(
     feed: &mut Feed<'_>,
     times: u64,
@@ -54,7 +54,7 @@ fn join_often(
     first: &mut [u8],
     second: &mut [u8],
 ) -> Tally {
-    let mut tally = Tally::new();
+    let mut tally = Tally::default();
     let mut joiner = Joiner::new();
     for _ in 0..times {
         let told = joiner::join(joiner, texts, feed.message(), first, second);
@@ -75,6 +75,7 @@ fn run(rt: &impl Print, asked: Asked, messages: &mut [u8]) -> io::Result<()> {
     println!(rt; "{texts} of the open texts' buffer, {first} and {second} of the results")
 }
 
+// Fixed memory: a part of the buffer is what was read.
 fn main(rt: HostRuntime) -> io::Result<()> {
     let mut input = [0u8; INPUT];
     let n = streams::read_full(&mut rt.stdin(), &mut input)?;

@@ -1,10 +1,9 @@
 // What was given, told of the answers of a joiner. The counts and sums wrap.
 use joiner::{Answer, Text, Texts};
 use std::fmt;
-use workload::text::last_of;
 
 // Texts and their bytes, the sum of each text's facility and last byte; and the refusals, with the sum of their numbers.
-#[derive(Clone, Copy)]
+#[derive(Clone, Copy, Default)]
 pub struct Tally {
     texts: u64,
     bytes: u64,
@@ -14,24 +13,15 @@ pub struct Tally {
 }
 
 impl Tally {
-    pub fn new() -> Self {
-        Self {
-            texts: 0,
-            bytes: 0,
-            marks: 0,
-            refused: 0,
-            refusals: 0,
-        }
-    }
-
     fn add_text(&mut self, text: Text, res: &[u8]) {
-        let mark = text.facility.wrapping_add(last_of(res, text.size));
+        let last = slices::front(res, text.size).last().map_or(0, |b| u64::from(*b));
+        let mark = text.facility.wrapping_add(last);
         self.texts = self.texts.wrapping_add(1);
         self.bytes = self.bytes.wrapping_add(text.size as u64);
         self.marks = self.marks.wrapping_add(mark);
     }
 
-    // One answer more, with the results that its texts lie in.
+    // One answer more, with the results that its texts lie in: two buffers, as a joiner is lent them.
     pub fn add(&mut self, answer: Answer, first: &[u8], second: &[u8]) {
         match answer {
             Ok(Texts::Nothing) => {}

@@ -24,7 +24,7 @@ const TIMES_MOST: u64 = 100000000;
 const PRINTED: usize = 262144;
 
 // What is printed.
-#[derive(Clone, Copy)]
+#[derive(Clone, Copy, Debug, PartialEq, Eq)]
 enum What {
     Numbers,
     Headers,
@@ -121,6 +121,7 @@ fn refuse(rt: &impl Print) -> io::Result<()> {
     )
 }
 
+// Fixed memory: a part of each buffer is what was read or printed.
 fn main(rt: HostRuntime) -> io::Result<()> {
     let mut input = [0u8; INPUT];
     let n = streams::read_full(&mut rt.stdin(), &mut input)?;

@@ -31,7 +31,7 @@ fn understand(line: &[u8]) -> Option<Asked> {
     Some(Asked { bytes, times })
 }
 
-// All records of a log, from first to last.
+// All records of a log, from first to last. The log's numbers and its buffer go apart here and below, since every call of the log takes them so.
 fn read_through(log: Log, buffer: &[u8], lent: &mut [u8], tally: &mut Tally) {
     let mut reader = Reader::new(log);
     for _ in 0..filling::RECORDS {
@@ -61,6 +61,8 @@ fn run(rt: &impl Print, asked: Asked) -> io::Result<()> {
     rt.println(read_often(log, &buffer, &mut lent, asked.times))
 }
 
+// Fixed memory: a part of the buffer is what was read. Other programs' mains look alike: one for all would take what is asked, run and refused as closures, and
+// be no plainer.
 fn main(rt: HostRuntime) -> io::Result<()> {
     let mut input = [0u8; 64];
     let n = streams::read_full(&mut rt.stdin(), &mut input)?;

@@ -46,7 +46,7 @@ fn understand(input: &[u8]) -> Option<Asked> {
 
 // ---- saving
 
-// The bytes of an image; none where the save is refused.
+// The bytes of an image; none where the save is refused. The log's numbers and its buffer go apart here and below, since every call of the log takes them so.
 fn save_once(log: Log, buffer: &[u8], number: u64, out: &mut [u8]) -> usize {
     savedtrail::save(log, buffer, (number % 4294967296) as u32, out).map_or(0, |bytes| bytes as usize)
 }
@@ -78,7 +78,7 @@ fn each_record<F: FnMut(Heading, &[u8])>(file: &[u8], res: &mut [u8], mut visit:
 }
 
 fn read_often(file: &[u8], res: &mut [u8], times: u64) -> Tally {
-    let mut tally = Tally::new();
+    let mut tally = Tally::default();
     for _ in 0..times {
         each_record(file, res, |h, res| tally.add(h, res));
     }
@@ -128,6 +128,8 @@ fn run(rt: &impl Print, asked: Asked) -> io::Result<()> {
     save_and_read(rt, log, buffer, asked.saves, asked.reads)
 }
 
+// Fixed memory: a part of the buffer is what was read. Other programs' mains look alike: one for all would take what is asked, run and refused as closures, and
+// be no plainer.
 fn main(rt: HostRuntime) -> io::Result<()> {
     let mut input = [0u8; 64];
     let n = streams::read_full(&mut rt.stdin(), &mut input)?;

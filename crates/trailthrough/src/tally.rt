@@ -2,10 +2,9 @@
 use record::Heading;
 use std::fmt;
 use workload::checksum::Sum;
-use workload::text::last_of;
 
-// How many records and bytes of text and dictionary, and the sum of the times and of each record's last byte.
-#[derive(Clone, Copy)]
+// How many records and bytes of text and dictionary, and the sum of the times and of each record's last byte. No `Sum`: it counts other things.
+#[derive(Clone, Copy, Default)]
 pub struct Tally {
     pub records: u64,
     pub bytes: u64,
@@ -13,18 +12,11 @@ pub struct Tally {
 }
 
 impl Tally {
-    pub fn new() -> Self {
-        Self {
-            records: 0,
-            bytes: 0,
-            sum: 0,
-        }
-    }
-
     // One record more: its heading, and the result buffer.
     pub fn add(&mut self, h: Heading, res: &[u8]) {
         let n = payload(h);
-        let told = h.time.wrapping_add(last_of(res, n));
+        let last = slices::front(res, n).last().map_or(0, |b| u64::from(*b));
+        let told = h.time.wrapping_add(last);
         self.records = self.records.wrapping_add(1);
         self.bytes = self.bytes.wrapping_add(n as u64);
         self.sum = self.sum.wrapping_add(told);

@@ -1,6 +1,6 @@
-// The text of the records that a log is filled with, and of those that come back.
+// The text of the records that a log is filled with.
 ghost use Rattle.std.specs.Prelude.{◌≡◌, ℕ, ◌<◌, length, slice_index};
-ghost use Rattle.workload.specs.Text.{text_byte, last_of};
+ghost use Rattle.workload.specs.Text.{text_byte};
 
 // Letters in turn, and each last of so many bytes is a newline (0: none is).
 fn text_byte(i: usize, every: usize) -> u8
@@ -18,15 +18,5 @@ pub fn put_text(text: &mut [u8], every: usize)
 {
     for (i, b) in text.iter_mut().enumerate() {
         *b = text_byte(i, every);
-    }
-}
-
-// The last of the first n bytes: 0 if n is 0, or there are fewer.
-pub fn last_of(s: &[u8], n: usize) -> u64
-    ensures { result ≡ last_of n s.now }
-{
-    match n {
-        0 => 0,
-        _ => s.get(n - 1).map_or(0, |b| u64::from(*b)),
     }
 }

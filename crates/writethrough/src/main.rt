@@ -28,7 +28,7 @@ struct Asked<'a> {
     ghost fits: { capacity ≤ 65536 },
 }
 
-// What the writes told: the bytes answered and the records dropped, whose counts wrap, and the log's numbers after the last.
+// What the writes told: the bytes answered and the records dropped, whose counts wrap, and the log's numbers after the last. No `Written`: that has one answer.
 #[derive(Clone, Copy)]
 struct Told {
     answered: u64,
@@ -77,13 +77,14 @@ fn write_often(buffer: &mut [u8], message: &[u8], times: u64) -> Told {
     told
 }
 
-// The oldest line that is held, as a reader gets it.
+// The oldest line that is held, as a reader gets it. The log's numbers and its buffer go apart, since every call of the log takes them so.
 fn print_oldest(rt: &impl Print, log: Log, buffer: &[u8], lent: &mut [u8]) -> io::Result<()> {
     let given = kmsg::read(Reader::new(log), log, buffer, lent);
-    match given.answer {
-        Ok(bytes) => rt.write_all(slices::front(lent, bytes as usize)),
-        Err(_) => rt.write_all(b"no record is held\n"),
-    }
+    let line = match given.answer {
+        Ok(bytes) => slices::front(lent, bytes as usize),
+        Err(_) => b"no record is held\n",
+    };
+    rt.write_all(line)
 }
 
 fn run(rt: &impl Print, asked: Asked<'_>) -> io::Result<()> {
@@ -95,6 +96,7 @@ fn run(rt: &impl Print, asked: Asked<'_>) -> io::Result<()> {
     print_oldest(rt, told.log, buffer, &mut lent)
 }
 
+// Fixed memory: a part of the buffer is what was read.
 fn main(rt: HostRuntime) -> io::Result<()> {
     let mut input = [0u8; INPUT];
     let n = streams::read_full(&mut rt.stdin(), &mut input)?;
