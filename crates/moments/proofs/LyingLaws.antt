@@ -22,7 +22,6 @@ use Rattle.store.specs.Write.{kept_by, written_log, written_buffer}
 use Rattle.store.proofs.StoredLaws.{Storable}
 use Rattle.store.proofs.HoldsLaws.{grown, used-is, holds_written}
 use Rattle.writes.specs.Write.{outside_record, box_record, outside_ruling, box_ruling, write_by, outside_write, box_write}
-use Rattle.kmsg.specs.Read.{reading, seeking}
 use Rattle.syslog.specs.Command.{commanding}
 use Rattle.syslog.specs.Minimum.{setting_minimum}
 use Rattle.history.specs.Calls.{Call, outside, box, make, place, read, seek, command, save, minimum, check, console, State, Stepped, after_write, if_there, step, state_after}
