@@ -347,49 +347,17 @@ pub fn print_decimal(value: u64, out: &mut [u8], at: usize) -> Option<usize>
     Some(end)
 }
 
-// The number in so many bytes at a place, if they lie inside. Each byte is shifted to its own place in the word, so that the
-// compiler sees one load.
-fn load(s: &[u8], at: usize, width: usize) -> Option<u64>
-    requires { width ≤ 8 }
-    ensures { result ≡ loaded width s.now at }
-{
-    if !slices::has_room(s.len(), at, width) {
-        return None;
-    }
-    let mut n: u64 = 0;
-    let mut i = 0;
-    while i < width {
-        n = n + ((s[at + i] as u64) << (8 * i));
-        i += 1;
-    }
-    Some(n)
-}
-
+// The number in eight bytes at a place, if they lie inside.
 pub fn load_u64(s: &[u8], at: usize) -> Option<u64>
     ensures { result ≡ loaded 8 s.now at }
 {
-    load(s, at, 8)
+    let bytes = s.get(at..)?.first_chunk()?;
+    Some(u64::from_le_bytes(*bytes))
 }
 
-// So many low bytes of a number put at a place, if there is room for them.
-fn store(value: u64, out: &mut [u8], at: usize, width: usize) -> Option<usize>
-    ensures { left result out.new ≡ placed out.old at (little_endian width value) }
-{
-    if !slices::has_room(out.len(), at, width) {
-        return None;
-    }
-    let mut v = value;
-    let mut i = 0;
-    while i < width {
-        out[at + i] = (v % 256) as u8;
-        v = v / 256;
-        i += 1;
-    }
-    Some(at + i)
-}
-
+// A number's eight bytes put at a place, if there is room for them.
 pub fn store_u64(value: u64, out: &mut [u8], at: usize) -> Option<usize>
     ensures { left result out.new ≡ placed out.old at (little_endian 8 value) }
 {
-    store(value, out, at, 8)
+    slices::copy(&value.to_le_bytes(), out, at)
 }
