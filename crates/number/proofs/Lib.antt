@@ -4,3 +4,4 @@ pub mod PrintLaws
 pub mod LittleEndianLaws
 pub mod WidthLaws
 pub mod Examples
+pub mod PairLaws

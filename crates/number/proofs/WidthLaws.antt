@@ -2,7 +2,7 @@
 use Rattle.std.specs.Prelude.{Some, None}
 use Prim.Native.Nat.{ℕ, zero, suc, ◌+◌, ◌*◌, ◌/◌, ◌%◌, ◌^◌, ◌<◌, ◌≤◌}
 use mathlib.Core.Path.{◌≡◌, refl, sym, ap, ap₂, ◌∙◌}
-use mathlib.Core.List.{List, [], ◌∷◌}
+use mathlib.Core.List.{List, ◌∷◌}
 use native.Mathlib.Omega.{arith}
 use native.Mathlib.Nat.{pow-succ', mul_comm}
 use native.Mathlib.Numerals.{add-one}
@@ -52,7 +52,7 @@ loaded-inside s at h =
     let l : 8 ≤ length (drop at s) = rw length-drop (omega arith) in
     let k : 8 ≤ length (take 8 (drop at s)) = rw (length-take-le 8 (drop at s) l) (omega arith) in
     let e : little 8 (take 8 (drop at s)) ≡ little 8 (drop at s) =
-        sym (little-append 8 (take 8 (drop at s)) (drop 8 (drop at s)) k) ∙ ap (little 8) (take-append-drop 8 (drop at s)) in
+    sym (little-append 8 (take 8 (drop at s)) (drop 8 (drop at s)) k) ∙ ap (little 8) (take-append-drop 8 (drop at s)) in
     rw (le-leb (at + 8) (length s) h) (ap (λ (n : ℕ). Some n) (from_little (take 8 (drop at s)) ∙ e))
 
 pub loaded-outside : (s : List ℕ) (at : ℕ) → length s < at + 8 → None ≡ loaded 8 s at

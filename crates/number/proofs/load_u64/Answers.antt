@@ -5,7 +5,6 @@ use mathlib.Core.Logic.{inl, inr}
 use native.Mathlib.Omega.{arith}
 use lib.ListN.{length, take, drop, length-drop}
 use lib.Seq.{take_all}
-use Rattle.std.proofs.Common.{Some}
 use Rattle.std.specs.Int.{w64, from_le_bytes}
 use Rattle.number.proofs.WidthLaws.{loaded-inside, loaded-outside}
 use Rattle.number.proofs.load_u64.Goals as goal
