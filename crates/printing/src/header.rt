@@ -1,4 +1,5 @@
 // The header of a line, as a whole line without text: put by `line` if there is room for it.
+use line::Parts;
 use record::Heading;
 
 // Puts a header at a place, and answers the place behind it.
@@ -24,5 +25,11 @@ pub fn header(
         caller: (caller % 4294967296) as u32,
         reserved: 0,
     };
-    line::place_line(h, b"", b"", b"", b"", room).map_or(at, |bytes| at.wrapping_add(bytes))
+    let parts = Parts {
+        text: b"",
+        more: b"",
+        dictionary: b"",
+        others: b"",
+    };
+    line::place_line(h, parts, room).map_or(at, |bytes| at.wrapping_add(bytes))
 }

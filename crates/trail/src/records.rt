@@ -1,5 +1,6 @@
 // The records of a trail, each as the line that a read of the log writes of it.
 use image::Ending;
+use line::Parts;
 use record::Heading;
 use savedtrail::{Reader, Told};
 use std::io;
@@ -28,7 +29,13 @@ fn place(h: Heading, text: &[u8], dictionary: &[u8], line: &mut [u8]) -> Option<
     if room < dictionary.len() {
         return None;
     }
-    line::place_line(h, text, &[], dictionary, &[], line)
+    let parts = Parts {
+        text,
+        more: &[],
+        dictionary,
+        others: &[],
+    };
+    line::place_line(h, parts, line)
 }
 
 // A line that has no room is none of ours.
