@@ -111,7 +111,8 @@ fn lines_length(slots: [Slot; Board::SLOTS], buffer: &[u8], most: usize) -> Opti
     Some(most - room)
 }
 
-// A number and a byte behind it, put at a place where there is room for them; the place behind them.
+// A number and a byte behind it, put at a place where there is room for them; the place behind them. A lent buffer and a place
+// in it stand for a Vec here and below: there is no heap.
 pub fn write_field(number: u64, end: u8, out: &mut [u8], at: usize) -> usize
     requires { at + length (field number end) ≤ length out.old }
     ensures { Written out.old at (field number end) result out.new }

@@ -16,7 +16,7 @@ fn join(
 }
 
 fn main(rt: HostRuntime) -> io::Result<()> {
-    // One byte more than is taken, to see an input that is too long.
+    // One byte more than is taken, to see an input that is too long. Arrays, and how much of each is filled: there is no heap.
     let mut input = [0u8; Received::INPUT + 1];
     let n = streams::read_full(&mut rt.stdin(), &mut input)?;
     // Some 330 KB on the stack in all, most of them for the longest output.

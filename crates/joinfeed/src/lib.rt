@@ -87,7 +87,8 @@ fn take(joiner: Joiner, texts: &mut [u8], m: &[u8], out: &mut [u8], at: usize) -
     }
 }
 
-// The lowest open text closed, and its line, at a place where there is room for it.
+// The lowest open text closed, and its line, at a place where there is room for it. It is not one function with `take`: a close
+// is lent no message, can't touch the texts, and has one result.
 fn close(joiner: Joiner, texts: &[u8], out: &mut [u8], at: usize) -> Progress
     requires { at + length (text_lines (called (state joiner.slots joiner.last texts.now) (closing lent)).shown) ≤ length out.old }
     ensures { Steps (state joiner.slots joiner.last texts.now) (closing lent) out.old at result texts.now out.new }

@@ -18,7 +18,7 @@ fn answer(input: &[u8], buffer: &mut [u8], out: &mut [u8]) -> usize
 }
 
 fn main(rt: HostRuntime) -> io::Result<()> {
-    // One byte more than is taken, to see an input that is too long.
+    // One byte more than is taken, to see an input that is too long. Arrays, and how much of each is filled: there is no heap.
     let mut input = [0u8; Received::INPUT + 1];
     let n = streams::read_full(&mut rt.stdin(), &mut input)?;
     let mut buffer = [0u8; Board::BUFFER];
