@@ -188,7 +188,7 @@ fn write_four(four: u64, out: &mut [u8], end: usize)
     write_pair(four / 100, out, end - 4);
 }
 
-// A number of three digits or more, four digits in a turn, the last first.
+// A number of three digits or more, four digits in a turn, the last first: each turn has what is left of the number, which no iterator of the library gives.
 fn write_long(value: u64, digits: usize, out: &mut [u8], at: usize)
     requires { (digits ≡ length (decimal value)) × (at + digits ≤ length out.old) }
     ensures { out.new ≡ put out.old at (decimal value) }

@@ -117,7 +117,8 @@ pub fn has_room(size: usize, at: usize, bytes: usize) -> bool
     at <= size && bytes <= size - at
 }
 
-// Bytes put at a place, if there is room for them.
+// Bytes put at a place, if there is room for them. Here and above, a buffer and a place in it are two arguments: the contracts of the public functions that
+// write name both. The part is cut by its ends, since of a part that `get_mut` gives nothing is known of what the buffer holds afterwards.
 pub fn copy(bytes: &[u8], out: &mut [u8], at: usize) -> Option<usize>
     ensures { left result out.new ≡ placed out.old at bytes.now }
 {
