@@ -36,7 +36,8 @@ fn deliver(
     let delivered = board::deliver(*board, slots, words.bytes(1, bytes));
     let stayed = stayed(board, &delivered.board, space, slots);
     *board = delivered.board;
-    Told::number(u64::from(board::answer_number(delivered.answer))).marked(stayed)
+    let number = board::answer_number(delivered.answer.map_err(u32::from));
+    Told::number(u64::from(number)).marked(stayed)
 }
 
 // What a channel's slot shows, with its text in the space.
