@@ -98,10 +98,10 @@ fn ask_often(log: Log, buffer: &[u8], asked: Asked, lent: &mut [u8], times: u64)
     let mut told = Told { answered: 0, log };
     for _ in 0..times {
         let commanded = syslog::command(log, buffer, asked, lent);
-        told = Told {
-            answered: told.answered.wrapping_add(commanded.answer.map_or(0, u64::from)),
-            log: commanded.log,
-        };
+        if let Ok(count) = commanded.answer {
+            told.answered = told.answered.wrapping_add(u64::from(count));
+        }
+        told.log = commanded.log;
     }
     told
 }
