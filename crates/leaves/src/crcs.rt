@@ -1,7 +1,6 @@
 // CRC-32 of inputs of many lengths, beside zlib's.
 ghost use Rattle.std.specs.Prelude.{◌<◌};
 
-use crate::say;
 use std::io;
 
 // One more than the longest.
@@ -16,18 +15,12 @@ fn fill(bytes: &mut [u8]) {
     }
 }
 
-fn print(rt: &impl Print, what: &[u8], bytes: &[u8]) -> io::Result<()> {
-    say::text(rt, b"crc ")?;
-    say::text(rt, what)?;
-    say::text(rt, b" ")?;
-    say::number(rt, bytes.len() as u64)?;
-    say::text(rt, b" ")?;
-    say::number(rt, crc::crc32(bytes) as u64)?;
-    say::line(rt)
+fn print(rt: &impl Print, what: &str, bytes: &[u8]) -> io::Result<()> {
+    println!(rt; "crc {what} {} {}", bytes.len(), crc::crc32(bytes))
 }
 
 // The first bytes: none, so many, twice as many, and on.
-fn lengths(rt: &impl Print, what: &[u8], bytes: &[u8], step: usize) -> io::Result<()>
+fn lengths(rt: &impl Print, what: &str, bytes: &[u8], step: usize) -> io::Result<()>
     requires { 0 < step }
 {
     for n in (0..bytes.len()).step_by(step) {
@@ -36,25 +29,20 @@ fn lengths(rt: &impl Print, what: &[u8], bytes: &[u8], step: usize) -> io::Resul
     Ok(())
 }
 
-fn zeros(rt: &impl Print) -> io::Result<()> {
-    let bytes = [0u8; ROOM];
-    lengths(rt, b"zeros", &bytes, 99)
-}
-
-fn ones(rt: &impl Print) -> io::Result<()> {
-    let bytes = [255u8; ROOM];
-    lengths(rt, b"ones", &bytes, 99)
+// The same byte everywhere.
+fn even(rt: &impl Print, what: &str, byte: u8) -> io::Result<()> {
+    lengths(rt, what, &[byte; ROOM], 99)
 }
 
 fn made(rt: &impl Print) -> io::Result<()> {
     let mut bytes = [0u8; ROOM];
     fill(&mut bytes);
-    lengths(rt, b"made", &bytes, 1)
+    lengths(rt, "made", &bytes, 1)
 }
 
 pub fn all(rt: &impl Print) -> io::Result<()> {
-    print(rt, b"digits", b"123456789")?;
-    zeros(rt)?;
-    ones(rt)?;
+    print(rt, "digits", b"123456789")?;
+    even(rt, "zeros", 0)?;
+    even(rt, "ones", 255)?;
     made(rt)
 }

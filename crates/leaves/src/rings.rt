@@ -2,7 +2,6 @@
 ghost use Rattle.std.specs.Prelude.{◌<◌, ◌≤◌};
 ghost use Rattle.ring.specs.Ring.{Within};
 
-use crate::say;
 use ring::Place;
 use std::io;
 
@@ -11,8 +10,7 @@ fn straight(rt: &impl Print, buffer: &[u8], start: usize, used: usize) -> io::Re
     requires { Within buffer.now start used }
 {
     for i in 0..used {
-        let one = [ring::byte_at(buffer, Place(start), used, i)];
-        say::text(rt, &one)?;
+        rt.write_all(&[ring::byte_at(buffer, Place(start), used, i)])?;
     }
     Ok(())
 }
@@ -21,22 +19,18 @@ fn put(rt: &impl Print, start: usize, used: usize) -> io::Result<()>
     requires { (start < 7) × (used ≤ 7) }
 {
     let mut buffer = *b"abcdefg";
-    say::text(rt, b"ring ")?;
-    say::number(rt, start as u64)?;
-    say::text(rt, b" ")?;
-    say::number(rt, used as u64)?;
-    say::text(rt, b": ")?;
+    print!(rt; "ring {start} {used}: ")?;
     match ring::ring_put(&mut buffer, Place(start), used, b"XYZ") {
         Some(n) => {
-            say::text(rt, &buffer)?;
+            rt.write_all(&buffer)?;
             if n <= 7 {
-                say::text(rt, b" ")?;
+                print!(rt; " ")?;
                 straight(rt, &buffer, start, n)?;
             }
+            println!(rt)
         }
-        None => say::text(rt, b"no room")?,
+        None => println!(rt; "no room"),
     }
-    say::line(rt)
 }
 
 fn from(rt: &impl Print, start: usize) -> io::Result<()>
