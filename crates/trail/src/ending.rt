@@ -2,70 +2,50 @@
 use crate::input::Input;
 use crate::records::{Printed, Unwritten};
 use image::{Ending, Fault};
-use std::io;
+use std::{fmt, io};
 
-fn say(rt: &impl Print, s: &[u8]) -> io::Result<()> {
-    rt.write_all(s)
-}
+// So many records.
+#[derive(Clone, Copy)]
+struct Records(u64);
 
-fn records(rt: &impl Print, n: u64) -> io::Result<()> {
-    if n == 1 {
-        return say(rt, b"1 record");
+impl fmt::Display for Records {
+    fn fmt<W: fmt::Write>(&self, f: &mut fmt::Formatter<W>) -> fmt::Result {
+        if self.0 == 1 {
+            write!(f, "1 record")
+        } else {
+            write!(f, "{} records", self.0)
+        }
     }
-    rt.print(n)?;
-    say(rt, b" records")
 }
 
-// The edition is told where the first block told one.
-fn ended(rt: &impl Print, first: bool, lines: Printed) -> io::Result<()> {
-    say(rt, b"end: ")?;
-    records(rt, lines.records)?;
-    if first {
-        say(rt, b", edition ")?;
-        rt.print(lines.edition)?;
-    }
-    say(rt, b"\n")
-}
-
-fn fault(rt: &impl Print, f: Fault) -> io::Result<()> {
+// What is wrong with a block.
+fn wrong(f: Fault) -> &'static str {
     match f {
-        Fault::Number => say(rt, b": wrong number"),
-        Fault::Save => say(rt, b": wrong save number"),
-        Fault::Edition => say(rt, b": wrong edition"),
-        Fault::Count => say(rt, b": wrong count"),
-        Fault::Check => say(rt, b": wrong check"),
+        Fault::Number => "wrong number",
+        Fault::Save => "wrong save number",
+        Fault::Edition => "wrong edition",
+        Fault::Count => "wrong count",
+        Fault::Check => "wrong check",
     }
 }
 
-// What is wrong with a block: the last that is held is marked.
-fn bad_block(rt: &impl Print, f: Fault, place: usize, n: u64) -> io::Result<()> {
-    say(rt, b"stop at block ")?;
-    rt.print(place)?;
-    if place == Input::BLOCKS {
-        say(
-            rt,
-            b": the input goes on, and this program reads no further",
-        )?;
-    } else {
-        fault(rt, f)?;
-    }
-    say(rt, b" (")?;
-    records(rt, n)?;
-    say(rt, b" before it)\n")
-}
-
-fn bad_record(rt: &impl Print, place: usize, why: &[u8]) -> io::Result<()> {
-    say(rt, b"stop at record ")?;
-    rt.print(place)?;
-    say(rt, why)
-}
-
+// The edition is told where the first block told one, and the last block that is held is marked.
 fn tell(rt: &impl Print, first: bool, lines: Printed) -> io::Result<()> {
+    let count = Records(lines.records);
     match lines.ending {
-        Ending::Ended => ended(rt, first, lines),
-        Ending::BadBlock(f, place) => bad_block(rt, f, place, lines.records),
-        Ending::BadRecord(place) => bad_record(rt, place, b": it breaks the heading rules\n"),
-        Ending::Unfinished(place) => bad_record(rt, place, b": unfinished\n"),
+        Ending::Ended if first => println!(rt; "end: {count}, edition {}", lines.edition),
+        Ending::Ended => println!(rt; "end: {count}"),
+        Ending::BadBlock(_, place) if place == Input::BLOCKS => {
+            let why = "the input goes on, and this program reads no further";
+            println!(rt; "stop at block {place}: {why} ({count} before it)")
+        }
+        Ending::BadBlock(f, place) => {
+            println!(rt; "stop at block {place}: {} ({count} before it)", wrong(f))
+        }
+        Ending::BadRecord(place) => println!(rt;
+            "stop at record {place}: it breaks the heading rules"
+        ),
+        Ending::Unfinished(place) => println!(rt; "stop at record {place}: unfinished"),
     }
 }
 
@@ -78,32 +58,15 @@ fn printed(
     Ok(())
 }
 
-// ---- on standard error, where a line that can't be written has no other place
-
-fn unread(errors: &impl Print, length: usize) -> io::Result<()> {
-    say(
-        errors,
-        b"trail: standard input could not be read behind byte ",
-    )?;
-    errors.print(length)?;
-    say(errors, b"\n")
-}
-
-fn unwritten(errors: &impl Print) -> io::Result<()> {
-    say(errors, b"trail: standard output could not be written\n")
-}
-
-// The last line; and on standard error what could not be read or written.
-pub fn print(
-    rt: &impl Print,
-    errors: &impl Print,
-    input: Input,
-    lines: Result<Printed, Unwritten>,
-) {
+// The last line; and on standard error what could not be read or written. A line that can't be written there has no other place.
+pub fn print(rt: &(impl Print + Eprint), input: Input, lines: Result<Printed, Unwritten>) {
     if printed(rt, Input::BLOCK <= input.length, lines).is_err() {
-        let _ = unwritten(errors);
+        let _ = eprintln!(rt; "trail: standard output could not be written");
     }
     if input.failed {
-        let _ = unread(errors, input.length);
+        let _ = eprintln!(rt;
+            "trail: standard input could not be read behind byte {}",
+            input.length
+        );
     }
 }

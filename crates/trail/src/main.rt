@@ -12,5 +12,5 @@ fn main(rt: HostRuntime) {
     let mut file = [0u8; Input::ROOM];
     let input = input::read(&rt, &mut file);
     let printed = records::print(&rt, slices::front(&file, input.length));
-    ending::print(&rt, &rt.stderr(), input, printed);
+    ending::print(&rt, input, printed);
 }
