@@ -20,7 +20,7 @@ const SAFE_DIGITS: usize = 19;
 fn is_digit(b: u8) -> bool
     ensures { result ≡ is_digit b }
 {
-    (b'0' <= b) & (b <= b'9')
+    b.is_ascii_digit()
 }
 
 // What a value above the bound answers: any later byte that is no digit makes it no decimal at all.
