@@ -44,7 +44,7 @@ impl Told {
         }
     }
 
-    // In another form than the first.
+    // In another form than the first. This and the next two set a field each, by names that the callers chain.
     pub fn meaning(self, meant: usize) -> Self {
         Told { meant, ..self }
     }
@@ -59,35 +59,22 @@ impl Told {
     }
 }
 
-pub(crate) fn say(rt: &impl Print, s: &[u8]) -> io::Result<()> {
-    rt.write_all(s)
-}
-
 // The words of a form, one after the other: numbers, bytes and names.
 fn print_form(rt: &impl Print, form: &[u8], told: Told, space: &[u8]) -> io::Result<()> {
     let mut numbers = told.numbers.iter();
     for (k, word) in form.split(|b| *b == b' ').enumerate() {
         if k > 0 {
-            say(rt, b" ")?;
+            print!(rt; " ")?;
         }
         match word {
             b"n" => rt.print(numbers.next().copied().unwrap_or(0))?,
             b"i" => rt.print(told.answer)?,
             b"h" => hex::print(rt, slices::front(space, told.to))?,
             b"m" => hex::print(rt, lent::between(space, told.to, told.more))?,
-            name => say(rt, name)?,
+            name => rt.write_all(name)?,
         }
     }
     Ok(())
-}
-
-// What ends an answer: its newline, and before it what marks a byte that did not stay.
-fn end(rt: &impl Print, stayed: bool) -> io::Result<()> {
-    if stayed {
-        say(rt, b"\n")
-    } else {
-        say(rt, b" CHANGED\n")
-    }
 }
 
 // Of the lent buffer every byte behind those that the answer counts is as it was before the call, and so is every other that should be.
@@ -96,16 +83,20 @@ fn stayed(words: &Words, told: Told, space: &[u8]) -> bool {
     told.stayed & lent::stayed(lent::between(space, counted, words.lent), 0)
 }
 
-// Writes the answer; `?` for a line that is no call.
+// Writes the answer; `?` for a line that is no call. A byte that did not stay is marked before its newline.
 pub fn print(rt: &impl Print, words: &Words, told: Option<Told>, space: &[u8]) -> io::Result<()> {
     let Some(told) = told else {
         return unknown(rt);
     };
     let form = words.forms.split(|b| *b == b'|').nth(told.meant);
     print_form(rt, form.unwrap_or(&[]), told, space)?;
-    end(rt, stayed(words, told, space))
+    if stayed(words, told, space) {
+        println!(rt)
+    } else {
+        println!(rt; " CHANGED")
+    }
 }
 
 pub fn unknown(rt: &impl Print) -> io::Result<()> {
-    say(rt, b"?\n")
+    println!(rt; "?")
 }

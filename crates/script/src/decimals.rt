@@ -19,7 +19,7 @@ pub(crate) fn limit(most: &[u8]) -> u64 {
     number::read_decimal(most, u64::MAX).unwrap_or(u64::MAX)
 }
 
-// A number of the type i32 as that type; others as its ends.
+// A number of the type i32 as that type; others as its ends, where try_from would know one end alone.
 pub fn narrow(v: i64) -> i32 {
     v.clamp(i64::from(i32::MIN), i64::from(i32::MAX)) as i32
 }
@@ -31,7 +31,7 @@ pub fn size(n: u64, most: usize) -> usize
     n.min(most as u64) as usize
 }
 
-// A number below 256 as a byte.
+// A number below 256 as a byte. An `as` that narrows has to fit, so of others the remainder is taken.
 pub fn byte(n: u64) -> u8 {
     (n % 256) as u8
 }

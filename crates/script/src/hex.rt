@@ -1,7 +1,6 @@
 // Bytes as lower-case hex digits, and back; `-` stands for no bytes.
 ghost use Rattle.std.specs.Prelude.{◌<◌};
 
-use crate::answers;
 use crate::words::Bytes;
 use std::io;
 
@@ -43,13 +42,13 @@ fn print_some(rt: &impl Print, bytes: &[u8]) -> io::Result<()> {
         pair[0] = digit(*b / 16);
         pair[1] = digit(*b % 16);
     }
-    answers::say(rt, slices::front(&out, 2 * bytes.len()))
+    rt.write_all(slices::front(&out, 2 * bytes.len()))
 }
 
 // Bytes as hex on standard output, some after the other.
 pub(crate) fn print(rt: &impl Print, bytes: &[u8]) -> io::Result<()> {
     if bytes.is_empty() {
-        return answers::say(rt, b"-");
+        return print!(rt; "-");
     }
     for part in bytes.chunks(500) {
         print_some(rt, part)?;

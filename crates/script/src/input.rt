@@ -1,5 +1,5 @@
 // Lines of standard input, taken from chunks of it.
-ghost use Rattle.std.specs.Prelude.{◌≤◌, IfOk, IfSome, length};
+ghost use Rattle.std.specs.Prelude.{◌≡◌, ◌≤◌, false, IfOk, IfSome, length};
 
 use crate::lent;
 use std::io;
@@ -27,7 +27,10 @@ fn with_piece(piece: &[u8], line: &mut [u8], length: usize) -> usize {
 }
 
 impl Lines {
-    pub fn new() -> Self {
+    // Nothing is read yet.
+    pub fn new() -> Self
+        ensures { (result.from ≡ 0) × (result.to ≡ 0) × (result.ended ≡ false) }
+    {
         Lines {
             chunk: [0; 65536],
             from: 0,

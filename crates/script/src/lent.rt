@@ -1,4 +1,6 @@
 // Lent buffers: parts of them, their bytes before a call, and whether those stayed that should have.
+ghost use Rattle.std.specs.Prelude.{◌≡◌};
+ghost use Rattle.script.specs.Said.{between};
 
 // A lent buffer is filled with this before a call.
 pub const FILL: u8 = 165;
@@ -12,7 +14,9 @@ pub fn stayed(buffer: &[u8], from: usize) -> bool {
 }
 
 // The bytes from one place to another, as far as they lie inside.
-pub(crate) fn between(buffer: &[u8], from: usize, to: usize) -> &[u8] {
+pub(crate) fn between(buffer: &[u8], from: usize, to: usize) -> &[u8]
+    ensures { result.now ≡ between buffer.now from to }
+{
     buffer.get(from..to.min(buffer.len())).unwrap_or(&[])
 }
 

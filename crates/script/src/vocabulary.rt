@@ -12,7 +12,7 @@ use crate::words;
 use crate::words::{Bytes, Value, Words};
 
 // A kind of line: something new, a call on what was made, or a question that takes its line alone.
-#[derive(Clone, Copy)]
+#[derive(Clone, Copy, Debug, PartialEq, Eq)]
 pub enum Call {
     Log,
     OnLog(OnLog),
@@ -26,7 +26,7 @@ pub enum Call {
     OnDisk(OnDisk),
 }
 
-#[derive(Clone, Copy)]
+#[derive(Clone, Copy, Debug, PartialEq, Eq)]
 pub enum OnLog {
     Check,
     Numbers,
@@ -43,7 +43,7 @@ pub enum OnLog {
 }
 
 // The number of the log that a line sets by hand.
-#[derive(Clone, Copy)]
+#[derive(Clone, Copy, Debug, PartialEq, Eq)]
 pub enum Setting {
     Start,
     Used,
@@ -58,7 +58,7 @@ pub enum Setting {
     Unsaved,
 }
 
-#[derive(Clone, Copy)]
+#[derive(Clone, Copy, Debug, PartialEq, Eq)]
 pub enum OnReader {
     Set,
     Where,
@@ -66,20 +66,20 @@ pub enum OnReader {
     Seek,
 }
 
-#[derive(Clone, Copy)]
+#[derive(Clone, Copy, Debug, PartialEq, Eq)]
 pub enum OnBoard {
     Deliver,
     Slot,
 }
 
-#[derive(Clone, Copy)]
+#[derive(Clone, Copy, Debug, PartialEq, Eq)]
 pub enum OnJoiner {
     Join,
     Close,
     Open,
 }
 
-#[derive(Clone, Copy)]
+#[derive(Clone, Copy, Debug, PartialEq, Eq)]
 pub enum OnDisk {
     Cut,
     Patch,

@@ -1,4 +1,7 @@
 // What the words of a line say, read as its row of the vocabulary wants them.
+ghost use Rattle.std.specs.Prelude.{◌≡◌, slice_get};
+ghost use Rattle.script.specs.Said.{said_number, said_signed, said_bytes};
+
 use crate::vocabulary::Call;
 use crate::{decimals, hex, lent};
 
@@ -34,7 +37,7 @@ fn number(word: &[u8], most: &[u8]) -> Option<u64> {
 fn signed(word: &[u8], most: &[u8]) -> Option<i128> {
     match word.strip_prefix(b"-") {
         Some(digits) => {
-            let below = decimals::limit(most).min(i64::MAX as u64) + 1;
+            let below = decimals::limit(most).min(i64::MAX.unsigned_abs()) + 1;
             Some(-i128::from(decimals::read(digits, below)?))
         }
         None => Some(i128::from(number(word, most)?)),
@@ -59,8 +62,10 @@ pub(crate) fn read(wanted: &[u8], word: &[u8], from: usize, bytes: &mut Bytes) -
 
 // What the k-th word says, as a call takes it.
 impl Words {
-    // A number of 64 bits with a sign.
-    pub fn signed(&self, k: usize) -> i64 {
+    // A number of 64 bits with a sign. Not one function with `number`: the type says which one stands for those that it has no room for.
+    pub fn signed(&self, k: usize) -> i64
+        ensures { result ≡ said_signed (slice_get self.now.values k) }
+    {
         match self.values.get(k) {
             Some(Value::Number(n)) => i64::try_from(*n).unwrap_or(i64::MAX),
             _ => 0,
@@ -68,14 +73,19 @@ impl Words {
     }
 
     // A number from 0 on: one below counts as the largest, which no facility and no level is.
-    pub fn number(&self, k: usize) -> u64 {
+    pub fn number(&self, k: usize) -> u64
+        ensures { result ≡ said_number (slice_get self.now.values k) }
+    {
         match self.values.get(k) {
             Some(Value::Number(n)) => u64::try_from(*n).unwrap_or(u64::MAX),
             _ => 0,
         }
     }
 
-    pub fn bytes<'a>(&self, k: usize, bytes: &'a Bytes) -> &'a [u8] {
+    // Bytes, of those of all words.
+    pub fn bytes<'a>(&self, k: usize, bytes: &'a Bytes) -> &'a [u8]
+        ensures { result.now ≡ said_bytes bytes.now (slice_get self.now.values k) }
+    {
         match self.values.get(k) {
             Some(Value::Bytes { from, to }) => lent::between(bytes, *from, *to),
             _ => &[],
