@@ -7,7 +7,7 @@ use script::vocabulary::OnBoard;
 use script::words::{Bytes, Words};
 use script::{decimals, lent};
 
-// A fresh board.
+// A fresh board. The joiner's is not one function with it: each sets a part of the state of its own type.
 pub fn fresh(state: &mut State, words: &Words) -> Told {
     state.slots.fill(decimals::byte(words.number(1)));
     state.board = Some(Board::new());
@@ -24,7 +24,8 @@ fn stayed(was: &Board, board: &Board, before: &[u8], after: &[u8]) -> bool {
     lent::stayed_around(before, after, 0, 0)
 }
 
-// What a delivery leaves, and tells. The space holds the board's bytes from before it.
+// What a delivery leaves, and tells. The space holds the board's bytes from before it. What a call needs of the state it is lent one by one, here as in the
+// other files: the parts are borrowed apart beside what was made, and a struct of them would be taken apart again in its one use.
 fn deliver(
     board: &mut Board,
     words: &Words,

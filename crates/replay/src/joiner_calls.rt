@@ -16,7 +16,7 @@ pub fn fresh(state: &mut State, words: &Words) -> Told {
 
 // ---- what a message may change
 
-// Bytes of the texts' buffer: so many from a place on.
+// Bytes of the texts' buffer, which is lent elsewhere: so many from a place on.
 #[derive(Clone, Copy)]
 struct Stretch {
     from: usize,
@@ -62,6 +62,8 @@ fn changed(was: &Joiner, joiner: &Joiner, answer: Answer) -> Stretch {
 }
 
 // ---- what is told of the results
+
+// The results and the space are lent as they are to the call: a struct of the three would be built once and taken apart in each of these.
 
 // The first result's text in the space, and the second's behind it.
 fn two_told(a: Text, b: Text, first: &[u8], second: &[u8], space: &mut [u8]) -> Told {

@@ -84,7 +84,7 @@ fn stopped(meant: usize, place: usize) -> Told {
     Told::number(place as u64).meaning(meant)
 }
 
-// The place of a fault's form in the list of its row, `next`.
+// The place of a fault's form in the list of its row, `next`: a place, as the vocabulary's forms have no names.
 fn fault_form(fault: Fault) -> usize {
     match fault {
         Fault::Number => 2,
