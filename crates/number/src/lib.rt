@@ -101,7 +101,7 @@ pub fn read_decimal(s: &[u8], most: u64) -> Result<u64, DecimalError>
 fn reached(value: u64, power: u64) -> usize
     ensures { (result ≡ cond (ltb value power) 0 1) × (result ≤ 1) }
 {
-    if value < power { 0 } else { 1 }
+    usize::from(power <= value)
 }
 
 // How many digits a number has that has so many or up to three more. The power is the least number with one more.
