@@ -147,7 +147,8 @@ fn nibble<const SHIFTS: usize>(n: u32) -> u64
     TABLE[4 * SHIFTS - 16 + n as usize]
 }
 
-// The low sixteen bits of a word, by four tables.
+// The low sixteen bits of a word, by four tables. One function of both halves would ask `nibble` for a count worked out from its own, which no const
+// argument can be.
 fn low_half(x: u32) -> u64
     requires { x < 65536 }
     ensures { result ≡ pair 32 x }
