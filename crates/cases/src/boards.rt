@@ -21,7 +21,7 @@ fn kept(board: Board, size: usize) -> bool {
     first.shown.is_none() & (first.size == 0) & (last.shown == Some(Seq(9))) & (last.size == size)
 }
 
-// T14's message, for channel 16, delivered to such a board.
+// T14's message, for channel 16, delivered to such a board. The size is that of a slot's text, and not the buffer's.
 fn deliver(rt: &impl Print, buffer: &mut [u8], size: usize) -> io::Result<()> {
     print!(rt; "board, buffer {}, text length {size}", buffer.len())?;
     let told = board::deliver(showing(size), buffer, b"134,7,1,-;1-0\n");

@@ -17,7 +17,7 @@ fn kept(joiner: Joiner, size: usize) -> bool {
     (joiner.last == Some(Seq(9))) & (joiner.slots[7].text == Some(size))
 }
 
-// Number 10, which stands alone, for facility 16.
+// Number 10, which stands alone, for facility 16. The size is an open text's; the buffers are lent apart, as the joiner takes them.
 fn join(
     rt: &impl Print,
     texts: &mut [u8],

@@ -7,7 +7,7 @@ pub fn stayed(bytes: &[u8]) -> bool {
     bytes.iter().all(|b| *b == 165)
 }
 
-// Document 01's number for an answer, and 0 for none.
+// Document 01's number for an answer, and 0 for none. No From: neither type is this crate's.
 pub fn number<T: Copy>(answer: Result<T, Refusal>) -> u32 {
     match answer {
         Ok(_) => 0,

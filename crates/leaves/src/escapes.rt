@@ -3,7 +3,7 @@ use crate::say;
 use escape::UnescapeError;
 use std::io;
 
-// An escaped run, read back, which ends a line.
+// An escaped run, read back, which ends a line. Fixed memory, here and below: a part of the buffer is what was put there.
 fn back(rt: &impl Print, s: &[u8]) -> io::Result<()> {
     let mut out = [0; 8];
     match escape::unescape(s, &mut out, 0) {

@@ -29,6 +29,7 @@ pub(crate) fn read(word: &[u8], out: &mut Bytes, at: usize) -> Option<usize> {
     Some(at + n)
 }
 
+// Escape has the same for itself alone: its public calls write whole escapes.
 fn digit(n: u8) -> u8
     requires { n < 16 }
 {

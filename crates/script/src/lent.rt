@@ -2,7 +2,7 @@
 ghost use Rattle.std.specs.Prelude.{◌≡◌};
 ghost use Rattle.script.specs.Said.{between};
 
-// A lent buffer is filled with this before a call.
+// A lent buffer is filled with this byte before a call.
 pub const FILL: u8 = 165;
 
 // Room for the longest buffer that a line lends, and for what is told of other buffers.

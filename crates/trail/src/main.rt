@@ -8,6 +8,7 @@ mod records;
 
 use input::Input;
 
+// Fixed memory: a part of the file's buffer is what was read.
 fn main(rt: HostRuntime) {
     let mut file = [0u8; Input::ROOM];
     let input = input::read(&rt, &mut file);

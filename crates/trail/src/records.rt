@@ -23,7 +23,8 @@ impl From<io::Error> for Unwritten {
     }
 }
 
-// The line of a record, put at the front of a buffer that has room for the longest.
+// The line of a record, put at the front of a buffer that has room for the longest. Heading, text and dictionary are what a reader hands out and what a line is
+// made of, each by a struct of its own crate: one more between the two would be no plainer.
 fn place(h: Heading, text: &[u8], dictionary: &[u8], line: &mut [u8]) -> Option<usize> {
     let room = Heading::PAYLOAD.checked_sub(text.len())?;
     if room < dictionary.len() {
