@@ -12,13 +12,13 @@ use Rattle.number.proofs.load_u64.Goals as goal
 pub returns-in_err-get : goal.returns-in_err-get
 returns-in_err-get c =
     let none = c.in_err-get.ensures.lookup in
-    rw c.from_residual.ensures (loaded-outside c.args.s.now c.args.at (elim none.0 [ inl h ↦ omega arith | inr h ↦ omega arith ]))
+    rw c.from_residual.ensures (loaded-outside 8 c.args.s.now c.args.at (elim none.0 [ inl h ↦ omega arith | inr h ↦ omega arith ]))
 
 pub returns-in_err-bytes : goal.returns-in_err-bytes
 returns-in_err-bytes c =
     let got = c.in_ok-get.ensures.lookup in
     let short = c.in_err-bytes.ensures.cases in
-    rw c.from_residual-in_err-bytes.ensures (loaded-outside c.args.s.now c.args.at (omega (arith, got.0.3, short)))
+    rw c.from_residual-in_err-bytes.ensures (loaded-outside 8 c.args.s.now c.args.at (omega (arith, got.0.3, short)))
 
 pub returns : goal.returns
 returns c =
@@ -29,4 +29,4 @@ returns c =
     let first = c.in_ok-bytes.ensures.cases in
     let bytes : c.in_ok-bytes.bytes.now ≡ take 8 (drop at s) = first.same ∙ ap (take 8) whole in
     let read : c.from_le_bytes.result ≡ from_le_bytes w64 (take 8 (drop at s)) = c.from_le_bytes.ensures ∙ ap (from_le_bytes w64) bytes in
-    rw read (loaded-inside s at (omega (arith, got.0.3, first.enough)))
+    rw read (loaded-inside 7 s at (omega (arith, got.0.3, first.enough)))
