@@ -2,15 +2,20 @@
 ghost use Rattle.std.specs.Prelude.{◌<◌, ◌≤◌};
 ghost use Rattle.ring.specs.Ring.{Within};
 
-use ring::Place;
+use ring::{Place, Used};
 use std::io;
 
 // The used bytes, one after the other.
-fn straight(rt: &impl Print, buffer: &[u8], start: usize, used: usize) -> io::Result<()>
-    requires { Within buffer.now start used }
+fn straight(rt: &impl Print, buffer: &[u8], start: usize, bytes: usize) -> io::Result<()>
+    requires { Within buffer.now start bytes }
 {
-    for i in 0..used {
-        rt.write_all(&[ring::byte_at(buffer, Place(start), used, i)])?;
+    let used = Used {
+        buffer,
+        start: Place(start),
+        bytes,
+    };
+    for i in 0..bytes {
+        rt.write_all(&[used.byte(i)])?;
     }
     Ok(())
 }
