@@ -34,7 +34,11 @@ fn join(
 
 // Not one function with `join`: a close is lent no message and has one result.
 fn close(rt: &impl Print, texts: &[u8], size: usize, res: &mut [u8]) -> io::Result<()> {
-    print!(rt; "closing, texts {}, text length {size}, result {}", texts.len(), res.len())?;
+    print!(rt;
+        "closing, texts {}, text length {size}, result {}",
+        texts.len(),
+        res.len()
+    )?;
     let told = joiner::close(holding(size), texts, res);
     let lent = say::stayed(texts) & say::stayed(res);
     say::answer(rt, say::number(told.answer), lent & kept(told.joiner, size))

@@ -4,7 +4,11 @@ use std::io;
 
 // T14's message, read into what is lent.
 fn read(rt: &impl Print, res: &mut [u8], numbers: &mut [u8]) -> io::Result<()> {
-    print!(rt; "line reader, result {}, numbers {}", res.len(), numbers.len())?;
+    print!(rt;
+        "line reader, result {}, numbers {}",
+        res.len(),
+        numbers.len()
+    )?;
     let answer = message::read_line(b"134,7,1,-;1-0\n", res, numbers);
     say::answer(rt, answer, say::stayed(res) & say::stayed(numbers))
 }

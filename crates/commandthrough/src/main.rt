@@ -48,9 +48,15 @@ struct Told {
 impl fmt::Display for Told {
     fn fmt<W: fmt::Write>(&self, f: &mut fmt::Formatter<W>) -> fmt::Result {
         let Log {
-            position, offset, ..
+            position,
+            offset,
+            ..
         } = self.log;
-        write!(f, "{} answered; position {}, offset {offset}", self.answered, position.0)
+        write!(
+            f,
+            "{} answered; position {}, offset {offset}",
+            self.answered, position.0
+        )
     }
 }
 

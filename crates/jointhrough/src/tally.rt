@@ -14,7 +14,9 @@ pub struct Tally {
 
 impl Tally {
     fn add_text(&mut self, text: Text, res: &[u8]) {
-        let last = slices::front(res, text.size).last().map_or(0, |b| u64::from(*b));
+        let last = slices::front(res, text.size)
+            .last()
+            .map_or(0, |b| u64::from(*b));
         let mark = text.facility.wrapping_add(last);
         self.texts = self.texts.wrapping_add(1);
         self.bytes = self.bytes.wrapping_add(text.size as u64);
@@ -47,6 +49,9 @@ impl fmt::Display for Tally {
             refused,
             refusals,
         } = *self;
-        write!(f, "{texts} texts of {bytes} bytes, marks {marks}; {refused} refused, numbers {refusals}")
+        write!(
+            f,
+            "{texts} texts of {bytes} bytes, marks {marks}; {refused} refused, numbers {refusals}"
+        )
     }
 }

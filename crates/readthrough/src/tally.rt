@@ -26,6 +26,10 @@ impl Tally {
 impl fmt::Display for Tally {
     fn fmt<W: fmt::Write>(&self, f: &mut fmt::Formatter<W>) -> fmt::Result {
         let Sum { bytes, weighed, .. } = self.lines;
-        write!(f, "{} records, {bytes} bytes, checksum {weighed}", self.records)
+        write!(
+            f,
+            "{} records, {bytes} bytes, checksum {weighed}",
+            self.records
+        )
     }
 }

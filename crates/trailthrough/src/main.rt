@@ -48,7 +48,10 @@ fn understand(input: &[u8]) -> Option<Asked> {
 
 // The bytes of an image; none where the save is refused. The log's numbers and its buffer go apart here and below, since every call of the log takes them so.
 fn save_once(log: Log, buffer: &[u8], number: u64, out: &mut [u8]) -> usize {
-    savedtrail::save(log, buffer, (number % 4294967296) as u32, out).map_or(0, |bytes| bytes as usize)
+    savedtrail::save(log, buffer, (number % 4294967296) as u32, out).map_or(
+        0,
+        |bytes| bytes as usize,
+    )
 }
 
 // Each time with a save number of its own; how many bytes in all.

@@ -25,7 +25,11 @@ impl Tally {
 
 impl fmt::Display for Tally {
     fn fmt<W: fmt::Write>(&self, f: &mut fmt::Formatter<W>) -> fmt::Result {
-        write!(f, "{} records read, {} bytes, sum {}", self.records, self.bytes, self.sum)
+        write!(
+            f,
+            "{} records read, {} bytes, sum {}",
+            self.records, self.bytes, self.sum
+        )
     }
 }
 

@@ -39,7 +39,10 @@ struct Told {
 impl fmt::Display for Told {
     fn fmt<W: fmt::Write>(&self, f: &mut fmt::Formatter<W>) -> fmt::Result {
         let Log {
-            start, used, next, ..
+            start,
+            used,
+            next,
+            ..
         } = self.log;
         write!(
             f,
