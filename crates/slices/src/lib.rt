@@ -71,18 +71,18 @@ pub fn all_in_stride<F: Fn(u8) -> bool>(stride: &[u8; STRIDE], test: F) -> bool
     all
 }
 
-// What is left of some bytes behind their strides without c.
+// What is left of some bytes behind their strides without c. A place steps here: strides cut off the front of a rest took a third more instructions.
 fn behind_strides(s: &[u8], c: u8) -> &[u8]
     ensures { (length result.now ≤ length s.now) × (length s.now - length result.now + length (before c result.now) ≡ length (before c s.now)) }
 {
-    let mut rest = s;
-    while let Some((stride, tail)) = rest.split_first_chunk::<STRIDE>() {
+    let mut at = 0;
+    while let Some(stride) = s[at..].first_chunk::<STRIDE>() {
         if !all_in_stride(stride, |b| b != c) {
             break;
         }
-        rest = tail;
+        at += STRIDE;
     }
-    rest
+    &s[at..]
 }
 
 // The place of the first c from a place on: the end, if there is none. Bytes without c are passed many at a time.
